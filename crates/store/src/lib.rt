@@ -1,0 +1,3 @@
+// Where objects are kept: a map from tags to values under two limits, read by one interface and written by another.
+pub mod reading;
+pub mod writing;
