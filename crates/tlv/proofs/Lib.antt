@@ -1,0 +1,4 @@
+pub mod Leaves
+pub mod Steps
+pub mod Sounds
+pub mod Order
