@@ -12,7 +12,7 @@ use Rattle.std.proofs.Told.{every-snoc}
 use Rattle.tlv.specs.declared.place.Place.{Place}
 use Rattle.tlv.specs.Objects.{Seen, end, primitive, constructed, Next, fault, seen, nextAt}
 use Rattle.tlv.specs.Series.{Reading, wrong, found, deepest, mostObjects, place, Reader, andThen, readObject, readNext, seriesBy, series, meaning}
-use Rattle.tlv.specs.Laws.{Inside, Sound, Meanings-sound}
+use Rattle.tlv.specs.Laws.{Inside, Sound}
 use Rattle.tlv.proofs.Steps.{Fits, Shorter, shorter, by-cond}
 
 -- a reader that keeps what was found sound, on a series inside a text of n bytes
@@ -52,6 +52,6 @@ module _ (n : ℕ) where
   seriesBy-sound zero d e bs before h i b = b
   seriesBy-sound (suc k) d e bs before h i b = readNext-sound (seriesBy k) d e (length bs) before (nextAt e bs) (seriesBy-sound k) (shorter e bs) h i b
 
-pub meanings-sound : Meanings-sound
+pub meanings-sound : (text : List ℕ) → Sound (length text) (meaning text)
 unfolding series
 meanings-sound text = seriesBy-sound (length text) (suc (length text)) 1 (length text) text [] (omega arith) (omega arith) (omega arith, tt)

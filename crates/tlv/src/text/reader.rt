@@ -8,6 +8,7 @@ ghost use Rattle.keyed.specs.Elements.{elements, memory};
 ghost use Rattle.tlv.specs.declared.text.ReadRefusal.the-variants.{Fault};
 ghost use Rattle.tlv.specs.Series.{series, readObject, meaning};
 ghost use Rattle.tlv.specs.Told.{meant, insideEnd, told, counted, answered, answerTo};
+ghost use Rattle.tlv.specs.Laws.{Exact};
 ghost use Rattle.tlv.specs.Rising.{firstPlace, lastPlace, Ordered, Before};
 use super::ReadRefusal;
 use crate::fault::FaultKind;
@@ -120,15 +121,18 @@ fn read_places(text: &[u8], memory: &mut [Place]) -> Result<usize, TextFault>
 // The same for a longer memory, of which only the first 64 places serve.
 fn read_front(text: &[u8], list: &mut [Place]) -> Result<usize, TextFault>
     requires { ⌜ 64 ≤ length (now list) ⌝ }
-    ensures { λ r. ⌜ counted r (now (list .exit)) ≡ meaning (now (text .entry)) ⌝ }
+    ensures read { λ r. ⌜ counted r (now (list .exit)) ≡ meaning (now (text .entry)) ⌝ }
+    ensures exact { λ _. ⌜ Exact (now (text .entry)) (meaning (now (text .entry))) ⌝ }
 {
     read_places(text, &mut list[0..MAX_OBJECTS])
 }
 
 // The places of a text's primitive objects go to the front of the work list, in order; how many there are.
-// What else the work list holds afterwards is left free.
+// What else the work list holds afterwards is left free. The clause `exact` ties `meaning`, by which the answer is
+// told, to what a text is: sound, complete, and the one reading, or else the first fault.
 pub fn read_text(text: &[u8], list: &mut [Place]) -> Result<usize, ReadRefusal>
     ensures read { λ r. ⌜ answered r (now (list .exit)) ≡ answerTo (length (now (list .entry))) (now (text .entry)) ⌝ }
+    ensures exact { λ _. ⌜ (64 ≤ length (now (list .entry)) → Exact (now (text .entry)) (meaning (now (text .entry)))) ⌝ }
 {
     if list.len() < MAX_OBJECTS {
         return Err(ReadRefusal::ListShort);

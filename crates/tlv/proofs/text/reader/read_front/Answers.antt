@@ -12,6 +12,7 @@ use Rattle.tlv.specs.declared.place.Place.{Place}
 use Rattle.tlv.specs.declared.fault.TextFault.{TextFault}
 use Rattle.tlv.specs.Series.{found}
 use Rattle.tlv.specs.Told.{counted}
+use Rattle.tlv.proofs.Exactness.{exact}
 use Rattle.tlv.proofs.text.reader.read_front.Needs as need
 
 -- what stands behind the first 64 places is not told of
@@ -20,4 +21,7 @@ behind (Ok n) xs ys h l = ap found (take-append-le n xs ys (omega arith))
 behind (Err f) xs ys h l = refl
 
 pub returns : need.returns
-returns c = behind (c .read-places .result) (c .read-places .last .memory) _ (c .read-places .ensures .within) (search needs) ∙ c .read-places .ensures .read
+returns c = record {
+  read = behind (c .read-places .result) (c .read-places .last .memory) _ (c .read-places .ensures .within) (search needs) ∙ c .read-places .ensures .read;
+  exact = exact (c .args .text .now);
+}
