@@ -6,3 +6,5 @@ pub mod Rising
 pub mod Grammar
 pub mod Faults
 pub mod Laws
+pub mod Written
+pub mod Worked
