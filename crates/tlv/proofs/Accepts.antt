@@ -25,7 +25,7 @@ pub length-reads : {lb : List ℕ} {n : ℕ} (more : List ℕ) → LengthBytes l
 length-reads more (short n h) = rw (lt-ltb n 128 h)
 length-reads more (long n) = refl
 
-object-made :
+pub object-made :
     {tb lb : List ℕ} {t : ℕ} (p e : ℕ) (v rest : List ℕ) → TagBytes tb t → LengthBytes lb (length v) → (getD tb 0 0 ≡ 0 → ⊥) →
     e ≡ p + length (tb ++ (lb ++ (v ++ rest))) →
     nextAt e (tb ++ (lb ++ (v ++ rest))) ≡ seen (object (marksConstructed (getD tb 0 0)) t p (p + length tb + length lb) v) rest

@@ -6,3 +6,5 @@ pub mod Accepts
 pub mod Refuses
 pub mod Found
 pub mod Exactness
+pub mod Heads
+pub mod Writing

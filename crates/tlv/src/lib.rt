@@ -3,3 +3,4 @@ pub mod fault;
 pub mod place;
 pub mod text;
 pub mod token;
+pub mod write;
