@@ -8,3 +8,4 @@ pub mod Found
 pub mod Exactness
 pub mod Heads
 pub mod Writing
+pub mod Tables

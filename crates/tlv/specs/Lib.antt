@@ -7,3 +7,4 @@ pub mod Grammar
 pub mod Faults
 pub mod Laws
 pub mod Written
+pub mod Worked

@@ -3,4 +3,5 @@ pub mod fault;
 pub mod place;
 pub mod text;
 pub mod token;
+pub mod worked;
 pub mod write;
