@@ -122,6 +122,7 @@ fn read_places(text: &[u8], memory: &mut [Place]) -> Result<usize, TextFault>
 fn read_front(text: &[u8], list: &mut [Place]) -> Result<usize, TextFault>
     requires { ⌜ 64 ≤ length (now list) ⌝ }
     ensures read { λ r. ⌜ counted r (now (list .exit)) ≡ meaning (now (text .entry)) ⌝ }
+    ensures within { λ r. ⌜ made r (λ n. n ≤ 64) ⌝ }
     ensures exact { λ _. ⌜ Exact (now (text .entry)) (meaning (now (text .entry))) ⌝ }
 {
     read_places(text, &mut list[0..MAX_OBJECTS])
@@ -132,6 +133,7 @@ fn read_front(text: &[u8], list: &mut [Place]) -> Result<usize, TextFault>
 // told, to what a text is: sound, complete, and the one reading, or else the first fault.
 pub fn read_text(text: &[u8], list: &mut [Place]) -> Result<usize, ReadRefusal>
     ensures read { λ r. ⌜ answered r (now (list .exit)) ≡ answerTo (length (now (list .entry))) (now (text .entry)) ⌝ }
+    ensures within { λ r. ⌜ made r (λ n. n ≤ 64) ⌝ }
     ensures exact { λ _. ⌜ (64 ≤ length (now (list .entry)) → Exact (now (text .entry)) (meaning (now (text .entry)))) ⌝ }
 {
     if list.len() < MAX_OBJECTS {

@@ -23,5 +23,6 @@ behind (Err f) xs ys h l = refl
 pub returns : need.returns
 returns c = record {
   read = behind (c .read-places .result) (c .read-places .last .memory) _ (c .read-places .ensures .within) (search needs) ∙ c .read-places .ensures .read;
+  within = c .read-places .ensures .within;
   exact = exact (c .args .text .now);
 }
