@@ -8,3 +8,4 @@ pub mod Verdict
 pub mod Walk
 pub mod Accepted
 pub mod Reads
+pub mod Alone
