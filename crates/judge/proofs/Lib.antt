@@ -6,3 +6,4 @@ pub mod Judging
 pub mod Verdicts
 pub mod Fitting
 pub mod Reading
+pub mod Tables

@@ -9,3 +9,4 @@ pub mod Walk
 pub mod Accepted
 pub mod Reads
 pub mod Alone
+pub mod Worked

@@ -4,3 +4,4 @@ pub mod fault;
 pub mod held;
 pub mod kind;
 pub mod text;
+pub mod worked;
