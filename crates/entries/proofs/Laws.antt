@@ -8,10 +8,11 @@ use native.Mathlib.Omega.{arith}
 use lib.ListN.{length, take, drop}
 use lib.Dec.{ltb, leb}
 use lib.Seq.{paste}
+use borrow.Rule.Slice.PartMut.{putMid}
 use Rattle.std.specs.declared.option.Option.{Option}
 use Rattle.std.specs.declared.option.Option.the-variants.{Some, None}
-use Rattle.std.specs.Options.{isSome, Cases}
-use Rattle.std.proofs.shelf.Lists.{length-take-le, append-assoc, length-append, take-at, drop-at, take-take, drop-take, length-drop}
+use Rattle.std.specs.Options.{isSome, mapped, Cases}
+use Rattle.std.proofs.shelf.Lists.{length-take-le, append-assoc, length-append, take-at, drop-at, take-take, drop-take, length-drop, take-append-drop}
 use Rattle.std.proofs.shelf.Edits.{take-paste}
 use Rattle.std.proofs.shelf.Tests.{and-parts, and-from, not-true, not-from-false, ltb-true, leb-true, lt-ltb, le-leb, cases-eq}
 use Rattle.store.specs.Map.{changed, empty, one, count}
@@ -192,3 +193,40 @@ closed-up a ys P M Q u at z u′ k h e p m moved n d =
     let i : u′ ≡ at + k = omega arith in
     ap (λ x. take x ys) i ∙ ap (take (at + k)) moved ∙ take-paste a at (drop (at + z) a) k (omega arith) (omega arith)
     ∙ ap (λ xs. xs ++ take k (drop (at + z) a)) front ∙ ap (λ xs. P ++ xs) back
+
+-- the front of a after the part M of it, between P and Q, is written over by one of the same length
+pub written-over : {X : Type 0} (a ys zs P M M′ Q : List X) (u at k : ℕ) → u ≤ length a → take u a ≡ P ++ (M ++ Q) → at ≡ length P → k ≡ length M → length M′ ≡ length M
+  → zs ≡ M′ → ys ≡ putMid at k a zs → take u ys ≡ P ++ (M′ ++ Q)
+written-over {X} a ys zs P M M′ Q u at k h e p ek m ez moved =
+    let D : List X = drop u a in
+    let whole : a ≡ P ++ (M ++ (Q ++ D)) =
+      sym (take-append-drop u a) ∙ ap (λ xs. xs ++ D) e ∙ append-assoc P (M ++ Q) D ∙ ap (λ xs. P ++ xs) (append-assoc M Q D) in
+    let front : take at a ≡ P = ap (take at) whole ∙ take-at P (M ++ (Q ++ D)) at (sym p) in
+    let behind : drop at a ≡ M ++ (Q ++ D) = ap (drop at) whole ∙ drop-at P (M ++ (Q ++ D)) at (sym p) in
+    let back : drop k (drop at a) ≡ Q ++ D = ap (drop k) behind ∙ drop-at M (Q ++ D) k (sym ek) in
+    let made : ys ≡ (P ++ (M′ ++ Q)) ++ D =
+      moved ∙ ap (λ xs. take at a ++ (xs ++ drop k (drop at a))) ez ∙ ap (λ xs. xs ++ (M′ ++ drop k (drop at a))) front ∙ ap (λ xs. P ++ (M′ ++ xs)) back
+      ∙ ap (λ xs. P ++ xs) (sym (append-assoc M′ Q D)) ∙ sym (append-assoc P (M′ ++ Q) D) in
+    let lu = length-take-le u a h in
+    let le = ap length e in
+    let l1 = length-append P (M ++ Q) in
+    let l2 = length-append M Q in
+    let l3 = length-append P (M′ ++ Q) in
+    let l4 = length-append M′ Q in
+    ap (take u) made ∙ take-at (P ++ (M′ ++ Q)) D u (omega arith)
+
+pub length-putMid : {X : Type 0} (a k : ℕ) (xs ys : List X) → a + k ≤ length xs → length ys ≡ k → length (putMid a k xs ys) ≡ length xs
+length-putMid a k xs ys h e =
+    let p = length-take-le a xs (omega arith) in
+    let q = length-drop a xs in
+    let r = length-drop k (drop a xs) in
+    let s = length-append (take a xs) (ys ++ drop k (drop a xs)) in
+    let t = length-append ys (drop k (drop a xs)) in
+    omega arith
+
+-- a tag whose value has a length is held
+pub held-length : (o : Option (List ℕ)) (n : ℕ) → mapped length o ≡ Some n → (v : List ℕ) → o ≡ Some v → length v ≡ n
+held-length o n e v h = let a : Some (length v) ≡ Some n = sym (ap (mapped length) h) ∙ e in cc
+
+pub never-absent : (o : Option (List ℕ)) (n : ℕ) → mapped length o ≡ Some n → o ≡ None → ⊥
+never-absent o n e h = let a : mapped length o ≡ None = ap (mapped length) h in let z : _≡_ {A = ℕ} 0 1 = cc in omega arith

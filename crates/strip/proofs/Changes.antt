@@ -2,7 +2,7 @@
 use mathlib.Core.Path.{_≡_, refl, sym, _∙_, ap}
 use mathlib.Core.List.{List, [], _∷_, _++_}
 use mathlib.Core.Bool.{true}
-use Prim.Native.Nat.{ℕ, _+_, _-_, _*_, _≤_, _<_}
+use Prim.Native.Nat.{ℕ, _+_, _-_, _*_, _/_, _%_, _≤_, _<_}
 use native.Mathlib.Omega.{arith}
 use lib.ListN.{length, take, drop}
 use lib.Seq.{paste}
@@ -13,7 +13,7 @@ use Rattle.std.proofs.shelf.Edits.{paste-paste, paste-all}
 use Rattle.std.proofs.shelf.Parts.{putMid-paste}
 use Rattle.store.specs.Map.{Map, changed}
 use Rattle.entries.specs.Entries.{Entry, lookup, good}
-use Rattle.entries.proofs.Laws.{cut-out, push-on, closed-up}
+use Rattle.entries.proofs.Laws.{good-parts, good-drop, cut-out, push-on, replace, closed-up, written-over}
 use Rattle.strip.specs.Strip.{entry-bytes, written, entries, Sound, contents}
 use Rattle.strip.specs.Spot.{Spot}
 use Rattle.strip.specs.Kept.{sound-total, length-entries}
@@ -91,3 +91,30 @@ sound-push o b n u a ys t v n′ u′ s none tag short few room w same dn du =
     let h = sound-from o b n′ u′ ys (es ++ (t, v) ∷ []) (omega (arith, s .0)) (omega arith) (omega arith) (omega (arith, s .0))
       (omega arith) text (p .fine) in
     record { sound = h .sound; map = h .map ∙ p .map }
+
+-- a value written over one of the same length
+pub sound-over : (o b n u : ℕ) (a ys zs : List ℕ) (t at k : ℕ) (w : List ℕ) → Sound o b n u a → (p : Spot (take u a) (entries n (take u a)) t at)
+  → length (p .v) ≡ length w → k ≡ length w → zs ≡ w → ys ≡ putMid (at + 5) k a zs → length ys ≡ length a → Holds o b n u ys (changed (contents n u a) t (Some w))
+sound-over o b n u a ys zs t at k w s p same dk ez moved long =
+    let pre = p .pre in
+    let v = p .v in
+    let post = p .post in
+    let head : List ℕ → List ℕ = λ x. t / 65536 % 256 ∷ t / 256 % 256 ∷ t % 256 ∷ length x / 256 % 256 ∷ length x % 256 ∷ [] in
+    let text : take u a ≡ (written pre ++ head v) ++ (v ++ written post) = p .text ∙ sym (append-assoc (written pre) (head v) (v ++ written post)) in
+    let place = p .place in
+    let lp = length-append (written pre) (head v) in
+    let heads : head v ≡ head w = ap (λ j. t / 65536 % 256 ∷ t / 256 % 256 ∷ t % 256 ∷ j / 256 % 256 ∷ j % 256 ∷ []) same in
+    let over : take u ys ≡ (written pre ++ head v) ++ (w ++ written post) =
+      written-over a ys zs (written pre ++ head v) v w (written post) u (at + 5) k (s .3) text (omega arith) (omega arith) (sym same) ez moved in
+    let new : take u ys ≡ written (pre ++ (t, w) ∷ post) =
+      over ∙ ap (λ x. (written pre ++ x) ++ (w ++ written post)) heads ∙ append-assoc (written pre) (head w) (w ++ written post)
+      ∙ sym (written-append pre ((t, w) ∷ post)) in
+    let g : good (pre ++ (t, v) ∷ post) ≡ true = ap good (sym (p .split)) ∙ s .4 .1 in
+    let q = good-parts (t, v) post (good-drop pre ((t, v) ∷ post) g) in
+    let r = replace pre t v w post g (omega (arith, q .short)) in
+    let ln = length-entries n (take u a) in
+    let ls = ap length (p .split) in
+    let l1 = length-append pre ((t, v) ∷ post) in
+    let l2 = length-append pre ((t, w) ∷ post) in
+    let h = sound-from o b n u ys (pre ++ (t, w) ∷ post) (omega (arith, s .0)) (s .1) (s .2) (omega (arith, s .3)) (omega arith) new (r .fine) in
+    record { sound = h .sound; map = h .map ∙ r .map ∙ ap (λ xs. changed (lookup xs) t (Some w)) (sym (p .split)) }

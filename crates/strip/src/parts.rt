@@ -75,4 +75,19 @@ impl<'a> Parts<'a> {
         self.count += 1;
         self.used = at + 5 + n;
     }
+
+    // Writes the value over a held one of the same length.
+    pub(crate) fn overwrite(&mut self, tag: Tag, value: &[u8])
+        requires { ⌜ Whole (now self) ⌝ }
+        requires { ⌜ mapped length (held-by (now self) (tag .value)) ≡ Some (length (now value)) ⌝ }
+        ensures sound { λ _. ⌜ Whole (now (self .exit)) ⌝ }
+        ensures after { λ _. ⌜ held-by (now (self .exit)) ≡ changed (held-by (now (self .entry))) (tag .value) (Some (now (value .entry))) ⌝ }
+        ensures limits { λ _. ⌜ (now (self .exit) .objects ≡ now (self .entry) .objects) × (now (self .exit) .bytes ≡ now (self .entry) .bytes) ⌝ }
+    {
+        let n = value.len();
+        let count = self.count;
+        if let Some(at) = find(self.text(), count, tag) {
+            self.area[at + 5..at + 5 + n].copy_from_slice(value);
+        }
+    }
 }

@@ -79,6 +79,10 @@ pub impl<'a> Pack for Strip<'a> as StripPack {
     fn append(&mut self, tag: Tag, value: &[u8]) {
         self.parts.append(tag, value)
     }
+
+    fn overwrite(&mut self, tag: Tag, value: &[u8]) {
+        self.parts.overwrite(tag, value)
+    }
 }
 
 pub impl<'a> WriteStore for Strip<'a> as StripWrite {
