@@ -47,10 +47,10 @@ slot-at-append : (xs ys : List Slot) (t : ℕ) → slot-at xs t ≡ None → slo
 slot-at-append [] ys t h = refl
 slot-at-append (x ∷ xs) ys t h = ⊎-elim
     (λ e. let a = cond-true (eqb t (x .tag)) (Some (x .size)) (slot-at xs t) (eq-eqb t (x .tag) e) in
-      let z : _≡_ {A = ℕ} 0 1 = cc in absurd (omega arith))
+    let z : _≡_ {A = ℕ} 0 1 = cc in absurd (omega arith))
     (λ ne. let b = ne-eqb t (x .tag) ne in
-      cond-false (eqb t (x .tag)) (Some (x .size)) (slot-at (xs ++ ys) t) b
-      ∙ slot-at-append xs ys t (sym (cond-false (eqb t (x .tag)) (Some (x .size)) (slot-at xs t) b) ∙ h))
+    cond-false (eqb t (x .tag)) (Some (x .size)) (slot-at (xs ++ ys) t) b
+    ∙ slot-at-append xs ys t (sym (cond-false (eqb t (x .tag)) (Some (x .size)) (slot-at xs t) b) ∙ h))
     (cases-eq t (x .tag))
 
 pub record Next (ss : List Slot) (t i at : ℕ) (s : Slot) : Type 0 where
@@ -63,7 +63,7 @@ pub record Next (ss : List Slot) (t i at : ℕ) (s : Slot) : Type 0 where
   pub room : at + s .size ≤ sizes ss
 
 next-of : (ss pre post : List Slot) (t i at : ℕ) (s : Slot) → ss ≡ pre ++ post → length pre ≡ i → at ≡ sizes pre → slot-at pre t ≡ None
-  → i < length ss → s ≡ getD ss i s → Next ss t i at s
+    → i < length ss → s ≡ getD ss i s → Next ss t i at s
 next-of ss pre [] t i at s e l a h lt r = let b = ap length e in let c = length-append pre [] in absurd (omega arith)
 next-of ss pre (x ∷ post) t i at s e l a h lt r =
     let q : s ≡ x = r ∙ ap (λ zs. getD zs i s) e ∙ getD-at pre x post s i l in
@@ -79,10 +79,15 @@ pub next-at : (ss : List Slot) (t i at : ℕ) (s : Slot) → Next ss t i at s �
 next-at ss t i at s n lt e =
     let f : ss ≡ n .pre ++ slot t (s .size) ∷ n .post = n .split ∙ ap (λ u. n .pre ++ slot u (s .size) ∷ n .post) e in
     record {
-      pre = n .pre; post = n .post; split = f; long = n .long; start = n .start;
+      pre = n .pre;
+      post = n .post;
+      split = f;
+      long = n .long;
+      start = n .start;
       size = ap (λ xs. slot-at xs t) f ∙ slot-at-append (n .pre) (slot t (s .size) ∷ n .post) t (n .before)
-        ∙ cond-true (eqb t t) (Some (s .size)) (slot-at (n .post) t) (eq-eqb t t refl);
-      room = n .room; within = lt;
+          ∙ cond-true (eqb t t) (Some (s .size)) (slot-at (n .post) t) (eq-eqb t t refl);
+      room = n .room;
+      within = lt;
     }
 
 pub next-more : (ss : List Slot) (t i at : ℕ) (s : Slot) → Next ss t i at s → (s .tag ≡ t → ⊥) → Passed ss t (i + 1) (at + s .size)
@@ -90,10 +95,15 @@ next-more ss t i at s n ne =
     let a = n .start in
     let b = n .long in
     let c = length-append (n .pre) (s ∷ []) in
-    let d = sizes-append (n .pre) (s ∷ []) in
-    (n .pre ++ s ∷ [], n .post, n .split ∙ sym (append-assoc (n .pre) (s ∷ []) (n .post)), omega arith, omega arith,
+    let d = sizes-append (n .pre) (s ∷ []) in (
+      n .pre ++ s ∷ [],
+      n .post,
+      n .split ∙ sym (append-assoc (n .pre) (s ∷ []) (n .post)),
+      omega arith,
+      omega arith,
       slot-at-append (n .pre) (s ∷ []) t (n .before)
-      ∙ cond-false (eqb t (s .tag)) (Some (s .size)) None (ne-eqb t (s .tag) (λ q. ne (sym q))))
+          ∙ cond-false (eqb t (s .tag)) (Some (s .size)) None (ne-eqb t (s .tag) (λ q. ne (sym q))),
+    )
 
 pub passed-end : (ss : List Slot) (t i at : ℕ) → length ss ≤ i → Passed ss t i at → slot-at ss t ≡ None
 passed-end ss t i at l p =
@@ -110,16 +120,16 @@ lengths-cut (s ∷ ss) vs t l =
     let r = lengths-cut ss (drop (s .size) vs) t (omega arith) in
     ⊎-elim
     (λ e. let b = eq-eqb t (s .tag) e in
-      ap (mapped length) (cond-true (eqb t (s .tag)) (Some (take (s .size) vs)) (lookup (cut ss (drop (s .size) vs)) t) b)
-      ∙ ap Some n ∙ sym (cond-true (eqb t (s .tag)) (Some (s .size)) (slot-at ss t) b))
+    ap (mapped length) (cond-true (eqb t (s .tag)) (Some (take (s .size) vs)) (lookup (cut ss (drop (s .size) vs)) t) b)
+    ∙ ap Some n ∙ sym (cond-true (eqb t (s .tag)) (Some (s .size)) (slot-at ss t) b))
     (λ ne. let b = ne-eqb t (s .tag) ne in
-      ap (mapped length) (cond-false (eqb t (s .tag)) (Some (take (s .size) vs)) (lookup (cut ss (drop (s .size) vs)) t) b)
-      ∙ r ∙ sym (cond-false (eqb t (s .tag)) (Some (s .size)) (slot-at ss t) b))
+    ap (mapped length) (cond-false (eqb t (s .tag)) (Some (take (s .size) vs)) (lookup (cut ss (drop (s .size) vs)) t) b)
+    ∙ r ∙ sym (cond-false (eqb t (s .tag)) (Some (s .size)) (slot-at ss t) b))
     (cases-eq t (s .tag))
 
 -- the entry of a slot
 pub cut-at : (pre post : List Slot) (t z at : ℕ) (vs : List ℕ) → sizes (pre ++ slot t z ∷ post) ≡ length vs → at ≡ sizes pre
-  → cut (pre ++ slot t z ∷ post) vs ≡ cut pre (take at vs) ++ (t, take z (drop at vs)) ∷ cut post (drop (at + z) vs)
+    → cut (pre ++ slot t z ∷ post) vs ≡ cut pre (take at vs) ++ (t, take z (drop at vs)) ∷ cut post (drop (at + z) vs)
 cut-at pre post t z at vs e a =
     let s = sizes-append pre (slot t z ∷ post) in
     let l = length-take-le at vs (omega arith) in
@@ -131,7 +141,7 @@ cut-at pre post t z at vs e a =
 pub held-at : (ss : List Slot) (vs : List ℕ) (t i at z : ℕ) → Filed ss vs → At ss t i at z → lookup (cut ss vs) t ≡ Some (take z (drop at vs))
 held-at ss vs t i at z f k =
     let e : cut ss vs ≡ cut (k .pre) (take at vs) ++ (t, take z (drop at vs)) ∷ cut (k .post) (drop (at + z) vs) =
-      ap (λ xs. cut xs vs) (k .split) ∙ cut-at (k .pre) (k .post) t z at vs (ap sizes (sym (k .split)) ∙ f .0) (k .start) in
+    ap (λ xs. cut xs vs) (k .split) ∙ cut-at (k .pre) (k .post) t z at vs (ap sizes (sym (k .split)) ∙ f .0) (k .start) in
     ap (λ es. lookup es t) e
     ∙ cut-out (cut (k .pre) (take at vs)) t (take z (drop at vs)) (cut (k .post) (drop (at + z) vs)) (ap good (sym e) ∙ f .1) .here
 
@@ -150,7 +160,7 @@ found n u ss vs t i at z o k =
     let d = length-drop at vs in
     let j : at + (u - at) ≡ u = omega arith in
     let same : take z (drop at (take u vs)) ≡ take z (drop at vs) =
-      ap (λ x. take z (drop at (take x vs))) (sym j) ∙ ap (take z) (drop-take at (u - at) vs) ∙ take-take z (u - at) (drop at vs) (omega arith) in
+    ap (λ x. take z (drop at (take x vs))) (sym j) ∙ ap (take z) (drop-take at (u - at) vs) ∙ take-take z (u - at) (drop at vs) (omega arith) in
     record {
       slot = k;
       here = held-at (take n ss) (take u vs) t i at z (o .2) k ∙ ap Some same;
@@ -159,8 +169,8 @@ found n u ss vs t i at z o k =
     }
 
 pub place-cases : (k n u : ℕ) (ss : List Slot) (vs : List ℕ) (t : ℕ) (r : Option Place) → k ≡ n → Ordered n u ss vs
-  → Cases r (slot-at (take k ss) t ≡ None) (λ p. At (take k ss) t (p .index) (p .start) (p .size))
-  → Cases r (filed-map n u ss vs t ≡ None) (λ p. Found n u ss vs t (p .index) (p .start) (p .size))
+    → Cases r (slot-at (take k ss) t ≡ None) (λ p. At (take k ss) t (p .index) (p .start) (p .size))
+    → Cases r (filed-map n u ss vs t ≡ None) (λ p. Found n u ss vs t (p .index) (p .start) (p .size))
 place-cases k n u ss vs t None e o h = absent (take n ss) (take u vs) t (o .2) (ap (λ x. slot-at (take x ss) t) (sym e) ∙ h)
 place-cases k n u ss vs t (Some p) e o h =
     let Q : ℕ → Type 0 = λ x. At (take x ss) t (p .index) (p .start) (p .size) in

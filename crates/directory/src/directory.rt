@@ -29,7 +29,12 @@ impl<'a> Directory<'a> {
         ensures objects { λ r. ⌜ length (now (r .parts .slots)) ≡ length (now (slots .entry)) ⌝ }
         ensures bytes { λ r. ⌜ length (now (r .parts .values)) ≡ length (now (values .entry)) ⌝ }
     {
-        let parts = Parts { slots, values, count: 0, used: 0 };
+        let parts = Parts {
+            slots,
+            values,
+            count: 0,
+            used: 0,
+        };
         Directory { parts }
     }
 }
@@ -98,6 +103,6 @@ pub impl<'a> WriteStore for Directory<'a> as DirectoryWrite {
     }
 
     fn remove(&mut self, tag: Tag) -> bool {
-        self.parts.remove(tag)
+        self.take_out(tag)
     }
 }

@@ -65,7 +65,10 @@ impl<'a> Parts<'a> {
         let i = self.count;
         let at = self.used;
         let n = value.len();
-        self.slots[i] = Slot { tag: tag.number(), size: n as u8 };
+        self.slots[i] = Slot {
+            tag: tag.number(),
+            size: n as u8,
+        };
         self.values[at..at + n].copy_from_slice(value);
         self.count = i + 1;
         self.used = at + n;

@@ -32,7 +32,11 @@ pub(crate) fn find_slot(slots: &[Slot], tag: Tag) -> Option<Place>
         let s = slots[i];
         let size = s.size as usize;
         if s.tag == tag.number() {
-            return Some(Place { index: i, start, size });
+            return Some(Place {
+                index: i,
+                start,
+                size,
+            });
         }
         start += size;
     }

@@ -47,16 +47,16 @@ good-parts e es h =
 pub good-from : (e : Entry) (es : List Entry) → Parts e es → good (e ∷ es) ≡ true
 good-from e es p =
     and-from (ltb (e .0) 16777216) (leb (length (e .1)) 255 && (not (isSome (lookup es (e .0))) && good es))
-      (lt-ltb (e .0) 16777216 (p .tag))
-      (and-from (leb (length (e .1)) 255) (not (isSome (lookup es (e .0))) && good es) (le-leb (length (e .1)) 255 (p .short))
-        (and-from (not (isSome (lookup es (e .0)))) (good es)
-          (not-from-false (isSome (lookup es (e .0))) (none-test (lookup es (e .0)) (p .fresh))) (p .rest)))
+    (lt-ltb (e .0) 16777216 (p .tag))
+    (and-from (leb (length (e .1)) 255) (not (isSome (lookup es (e .0))) && good es) (le-leb (length (e .1)) 255 (p .short))
+    (and-from (not (isSome (lookup es (e .0)))) (good es)
+    (not-from-false (isSome (lookup es (e .0))) (none-test (lookup es (e .0)) (p .fresh))) (p .rest)))
 
 pub none-cons : (e : Entry) (es : List Entry) (t : ℕ) → lookup (e ∷ es) t ≡ None → (t ≡ e .0 → ⊥) × (lookup es t ≡ None)
 none-cons e es t h =
     let ne : t ≡ e .0 → ⊥ = λ q.
-      let a : lookup (e ∷ es) t ≡ Some (e .1) = ap (lookup (e ∷ es)) q ∙ changed-here (lookup es) (e .0) (Some (e .1)) in
-      let z : _≡_ {A = ℕ} 0 1 = cc in omega arith in
+    let a : lookup (e ∷ es) t ≡ Some (e .1) = ap (lookup (e ∷ es)) q ∙ changed-here (lookup es) (e .0) (Some (e .1)) in
+    let z : _≡_ {A = ℕ} 0 1 = cc in omega arith in
     (ne, sym (changed-other (lookup es) (e .0) t (Some (e .1)) ne) ∙ h)
 
 pub none-append : (xs ys : List Entry) (t : ℕ) → lookup xs t ≡ None → lookup ys t ≡ None → lookup (xs ++ ys) t ≡ None
@@ -81,7 +81,7 @@ cut-out [] t v post g =
     record {
       here = changed-here (lookup post) t (Some v);
       cut = changed-is (changed (lookup post) t (Some v)) (lookup post) t None (p .fresh)
-        (λ k ne. sym (changed-other (lookup post) t k (Some v) ne));
+          (λ k ne. sym (changed-other (lookup post) t k (Some v) ne));
       fine = p .rest;
     }
 cut-out (x ∷ pre) t v post g =
@@ -89,15 +89,15 @@ cut-out (x ∷ pre) t v post g =
     let p = good-parts x all g in
     let q = cut-out pre t v post (p .rest) in
     let ne : x .0 ≡ t → ⊥ = λ e.
-      let a : lookup all (x .0) ≡ Some v = ap (lookup all) e ∙ q .here in
-      let b = p .fresh in
-      let z : _≡_ {A = ℕ} 0 1 = cc in omega arith in
+    let a : lookup all (x .0) ≡ Some v = ap (lookup all) e ∙ q .here in
+    let b = p .fresh in
+    let z : _≡_ {A = ℕ} 0 1 = cc in omega arith in
     let fresh : lookup (pre ++ post) (x .0) ≡ None =
-      ap (λ m. m (x .0)) (q .cut) ∙ changed-other (lookup all) t (x .0) None ne ∙ p .fresh in
+    ap (λ m. m (x .0)) (q .cut) ∙ changed-other (lookup all) t (x .0) None ne ∙ p .fresh in
     record {
       here = changed-other (lookup all) (x .0) t (Some (x .1)) (λ e. ne (sym e)) ∙ q .here;
       cut = ap (λ m. changed m (x .0) (Some (x .1))) (q .cut)
-        ∙ changed-swap (lookup all) t (x .0) None (Some (x .1)) (λ e. ne (sym e));
+          ∙ changed-swap (lookup all) t (x .0) None (Some (x .1)) (λ e. ne (sym e));
       fine = good-from x (pre ++ post) (record { tag = p .tag; short = p .short; fresh = fresh; rest = q .fine });
     }
 
@@ -119,14 +119,14 @@ replace (x ∷ pre) t v w post g s =
     let c = cut-out pre t v post (p .rest) in
     let q = replace pre t v w post (p .rest) s in
     let ne : x .0 ≡ t → ⊥ = λ e.
-      let a : lookup all (x .0) ≡ Some v = ap (lookup all) e ∙ c .here in
-      let b = p .fresh in
-      let z : _≡_ {A = ℕ} 0 1 = cc in omega arith in
+    let a : lookup all (x .0) ≡ Some v = ap (lookup all) e ∙ c .here in
+    let b = p .fresh in
+    let z : _≡_ {A = ℕ} 0 1 = cc in omega arith in
     let fresh : lookup (pre ++ (t, w) ∷ post) (x .0) ≡ None =
-      ap (λ m. m (x .0)) (q .map) ∙ changed-other (lookup all) t (x .0) (Some w) ne ∙ p .fresh in
+    ap (λ m. m (x .0)) (q .map) ∙ changed-other (lookup all) t (x .0) (Some w) ne ∙ p .fresh in
     record {
       map = ap (λ m. changed m (x .0) (Some (x .1))) (q .map)
-        ∙ changed-swap (lookup all) t (x .0) (Some w) (Some (x .1)) (λ e. ne (sym e));
+          ∙ changed-swap (lookup all) t (x .0) (Some w) (Some (x .1)) (λ e. ne (sym e));
       fine = good-from x (pre ++ (t, w) ∷ post) (record { tag = p .tag; short = p .short; fresh = fresh; rest = q .fine });
     }
 
@@ -136,14 +136,14 @@ pub record Pushed (es : List Entry) (t : ℕ) (v : List ℕ) : Type 0 where
   pub fine : good (es ++ (t, v) ∷ []) ≡ true
 
 pub push-on : (es : List Entry) (t : ℕ) (v : List ℕ) → good es ≡ true → lookup es t ≡ None → t < 16777216 → length v ≤ 255
-  → Pushed es t v
+    → Pushed es t v
 push-on [] t v g h l s = record { map = refl; fine = good-from (t, v) [] (record { tag = l; short = s; fresh = refl; rest = refl }) }
 push-on (x ∷ es) t v g h l s =
     let p = good-parts x es g in
     let n = none-cons x es t h in
     let q = push-on es t v (p .rest) (n .1) l s in
     let fresh : lookup (es ++ (t, v) ∷ []) (x .0) ≡ None =
-      ap (λ m. m (x .0)) (q .map) ∙ changed-other (lookup es) t (x .0) (Some v) (λ e. n .0 (sym e)) ∙ p .fresh in
+    ap (λ m. m (x .0)) (q .map) ∙ changed-other (lookup es) t (x .0) (Some v) (λ e. n .0 (sym e)) ∙ p .fresh in
     record {
       map = ap (λ m. changed m (x .0) (Some (x .1))) (q .map) ∙ changed-swap (lookup es) t (x .0) (Some v) (Some (x .1)) (n .0);
       fine = good-from x (es ++ (t, v) ∷ []) (record { tag = p .tag; short = p .short; fresh = fresh; rest = q .fine });
@@ -177,7 +177,7 @@ lookup-tags (e ∷ es) g k l =
 
 -- the front of a after the part M of it, between P and Q, is closed up: what lies behind M is copied down to its place
 pub closed-up : {X : Type 0} (a ys P M Q : List X) (u at z u′ k : ℕ) → u ≤ length a → take u a ≡ P ++ (M ++ Q) → at ≡ length P → z ≡ length M
-  → ys ≡ paste a at (drop (at + z) a) k → k ≡ u - (at + z) → u′ ≡ u - z → take u′ ys ≡ P ++ Q
+    → ys ≡ paste a at (drop (at + z) a) k → k ≡ u - (at + z) → u′ ≡ u - z → take u′ ys ≡ P ++ Q
 closed-up a ys P M Q u at z u′ k h e p m moved n d =
     let lu = length-take-le u a h in
     let le = ap length e in
@@ -188,25 +188,25 @@ closed-up a ys P M Q u at z u′ k h e p m moved n d =
     let front : take at a ≡ P = sym (take-take at u a (omega arith)) ∙ ap (take at) e ∙ take-at P (M ++ Q) at (sym p) in
     let j : at + z + k ≡ u = omega arith in
     let back : take k (drop (at + z) a) ≡ Q =
-      sym (drop-take (at + z) k a) ∙ ap (λ i. drop (at + z) (take i a)) j ∙ ap (drop (at + z)) (e ∙ sym (append-assoc P M Q))
-      ∙ drop-at (P ++ M) Q (at + z) (omega arith) in
+    sym (drop-take (at + z) k a) ∙ ap (λ i. drop (at + z) (take i a)) j ∙ ap (drop (at + z)) (e ∙ sym (append-assoc P M Q))
+    ∙ drop-at (P ++ M) Q (at + z) (omega arith) in
     let i : u′ ≡ at + k = omega arith in
     ap (λ x. take x ys) i ∙ ap (take (at + k)) moved ∙ take-paste a at (drop (at + z) a) k (omega arith) (omega arith)
     ∙ ap (λ xs. xs ++ take k (drop (at + z) a)) front ∙ ap (λ xs. P ++ xs) back
 
 -- the front of a after the part M of it, between P and Q, is written over by one of the same length
 pub written-over : {X : Type 0} (a ys zs P M M′ Q : List X) (u at k : ℕ) → u ≤ length a → take u a ≡ P ++ (M ++ Q) → at ≡ length P → k ≡ length M → length M′ ≡ length M
-  → zs ≡ M′ → ys ≡ putMid at k a zs → take u ys ≡ P ++ (M′ ++ Q)
+    → zs ≡ M′ → ys ≡ putMid at k a zs → take u ys ≡ P ++ (M′ ++ Q)
 written-over {X} a ys zs P M M′ Q u at k h e p ek m ez moved =
     let D : List X = drop u a in
     let whole : a ≡ P ++ (M ++ (Q ++ D)) =
-      sym (take-append-drop u a) ∙ ap (λ xs. xs ++ D) e ∙ append-assoc P (M ++ Q) D ∙ ap (λ xs. P ++ xs) (append-assoc M Q D) in
+    sym (take-append-drop u a) ∙ ap (λ xs. xs ++ D) e ∙ append-assoc P (M ++ Q) D ∙ ap (λ xs. P ++ xs) (append-assoc M Q D) in
     let front : take at a ≡ P = ap (take at) whole ∙ take-at P (M ++ (Q ++ D)) at (sym p) in
     let behind : drop at a ≡ M ++ (Q ++ D) = ap (drop at) whole ∙ drop-at P (M ++ (Q ++ D)) at (sym p) in
     let back : drop k (drop at a) ≡ Q ++ D = ap (drop k) behind ∙ drop-at M (Q ++ D) k (sym ek) in
     let made : ys ≡ (P ++ (M′ ++ Q)) ++ D =
-      moved ∙ ap (λ xs. take at a ++ (xs ++ drop k (drop at a))) ez ∙ ap (λ xs. xs ++ (M′ ++ drop k (drop at a))) front ∙ ap (λ xs. P ++ (M′ ++ xs)) back
-      ∙ ap (λ xs. P ++ xs) (sym (append-assoc M′ Q D)) ∙ sym (append-assoc P (M′ ++ Q) D) in
+    moved ∙ ap (λ xs. take at a ++ (xs ++ drop k (drop at a))) ez ∙ ap (λ xs. xs ++ (M′ ++ drop k (drop at a))) front ∙ ap (λ xs. P ++ (M′ ++ xs)) back
+    ∙ ap (λ xs. P ++ xs) (sym (append-assoc M′ Q D)) ∙ sym (append-assoc P (M′ ++ Q) D) in
     let lu = length-take-le u a h in
     let le = ap length e in
     let l1 = length-append P (M ++ Q) in

@@ -30,7 +30,7 @@ pub total-unmasked : (pad : List ℕ) (m : Map) → total (unmasked pad m) ≡ t
 total-unmasked pad m = total-same (unmasked pad m) m (λ k. size-mapped (masked pad k) (length-masked pad k) (m k))
 
 pub short-masked : (pad : List ℕ) (t : ℕ) (o : Option (List ℕ))
-  → Cases o (Unit {0}) (λ v. length v ≤ 255) → Cases (mapped (masked pad t) o) (Unit {0}) (λ v. length v ≤ 255)
+    → Cases o (Unit {0}) (λ v. length v ≤ 255) → Cases (mapped (masked pad t) o) (Unit {0}) (λ v. length v ≤ 255)
 short-masked pad t None h = tt
 short-masked pad t (Some v) h = omega (arith, length-masked pad t v)
 

@@ -25,6 +25,15 @@ pub struct Masking<S> {
 }
 
 impl Pad {
+    // The pad of these bytes, and the law of masking with it.
+    fn new(bytes: [u8; 256]) -> Pad
+        ensures bytes { λ r. ⌜ r .bytes ≡ bytes ⌝ }
+        ensures masks { λ _. ⌜ MasksEachByte bytes ⌝ }
+        ensures empty { λ _. ⌜ unmasked bytes empty ≡ empty ⌝ }
+    {
+        Pad { bytes }
+    }
+
     // What byte `i` of the value of a tag is masked with.
     fn byte_for(&self, tag: Tag, i: usize) -> u8
         ensures { λ r. ⌜ r ≡ getD (now (self .entry) .bytes) ((i + tag .value) % 256) 0 ⌝ }
@@ -50,7 +59,10 @@ impl<S: ReadStore> Masking<S> {
         ensures masks { λ _. ⌜ MasksEachByte pad ⌝ }
         ensures empty { λ r. ⌜ (S·ReadStore .held lower ≡ empty → unmasked (r .pad .bytes) (S·ReadStore .held (r .lower)) ≡ empty) ⌝ }
     {
-        Masking { lower, pad: Pad { bytes: pad } }
+        Masking {
+            lower,
+            pad: Pad::new(pad),
+        }
     }
 }
 

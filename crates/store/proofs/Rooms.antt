@@ -38,17 +38,17 @@ pub held-le-total : (m : Map) (t : ℕ) → t < 16777216 → Cases (mapped lengt
 held-le-total m t l = held-le (m t) (total m) (size-le-total m t l)
 
 pub passes-after : (o b : ℕ) (m : Map) (t : ℕ) (v : List ℕ) → t < 16777216
-  → passes o b (changed m t (Some v)) ≡ (ltb o (count-after (count m) (mapped length (m t))) || ltb b (total-after (total m) (mapped length (m t)) (length v)))
+    → passes o b (changed m t (Some v)) ≡ (ltb o (count-after (count m) (mapped length (m t))) || ltb b (total-after (total m) (mapped length (m t)) (length v)))
 passes-after o b m t v l =
     let c : count (changed m t (Some v)) ≡ count-after (count m) (mapped length (m t)) =
-      counts (m t) (count m) (count (changed m t (Some v))) (count-changed m t (Some v) l) in
+    counts (m t) (count m) (count (changed m t (Some v))) (count-changed m t (Some v) l) in
     let s : total (changed m t (Some v)) ≡ total-after (total m) (mapped length (m t)) (length v) =
-      totals (m t) (total m) (total (changed m t (Some v))) (length v) (size-le-total m t l) (total-changed m t (Some v) l) in
+    totals (m t) (total m) (total (changed m t (Some v))) (length v) (size-le-total m t l) (total-changed m t (Some v) l) in
     cc
 
 -- where v fits, there is room for it once its tag is dropped
 pub room-left : (o b : ℕ) (m n : Map) (t : ℕ) (v : List ℕ) → t < 16777216 → n ≡ changed m t None
-  → passes o b (changed m t (Some v)) ≡ false → (count n < o) × (total n + length v ≤ b)
+    → passes o b (changed m t (Some v)) ≡ false → (count n < o) × (total n + length v ≤ b)
 room-left o b m n t v l e p =
     let q = or-parts (ltb o (count (changed m t (Some v)))) (ltb b (total (changed m t (Some v)))) p in
     let x = ltb-false o (count (changed m t (Some v))) (q .0) in
@@ -65,19 +65,19 @@ room-left o b m n t v l e p =
 
 -- the same, as a call of `room` asks it, of a held length h and a total s
 pub held-le-as : (m : Map) (t : ℕ) (h : Option ℕ) (s : ℕ) → t < 16777216 → h ≡ mapped length (m t) → s ≡ total m
-  → Cases h (Unit {0}) (λ l. l ≤ s)
+    → Cases h (Unit {0}) (λ l. l ≤ s)
 held-le-as m t h s l e f =
     let P : Option ℕ → Type 0 = λ o. Cases o (Unit {0}) (λ k. k ≤ s) in
     let Q : ℕ → Type 0 = λ n. Cases (mapped length (m t)) (Unit {0}) (λ k. k ≤ n) in
     subst P (sym e) (subst Q (sym f) (held-le-total m t l))
 
 pub room-answer : (o b c s : ℕ) (h : Option ℕ) (m : Map) (t : ℕ) (v : List ℕ) → t < 16777216
-  → h ≡ mapped length (m t) → c ≡ count m → s ≡ total m
-  → not (ltb o (count-after c h) || ltb b (total-after s h (length v))) ≡ not (passes o b (changed m t (Some v)))
+    → h ≡ mapped length (m t) → c ≡ count m → s ≡ total m
+    → not (ltb o (count-after c h) || ltb b (total-after s h (length v))) ≡ not (passes o b (changed m t (Some v)))
 room-answer o b c s h m t v l e f g = let p = passes-after o b m t v l in cc
 
 pub put-taken : (o b : ℕ) (m : Map) (t : ℕ) (v : List ℕ) → length v ≤ 255 → passes o b (changed m t (Some v)) ≡ false
-  → Ok tt ≡ put-answer o b m t v
+    → Ok tt ≡ put-answer o b m t v
 put-taken o b m t v l p =
     sym (cond-false (ltb 255 (length v)) (Err TooLong) (cond (passes o b (changed m t (Some v))) (Err NoRoom) (Ok tt)) (le-ltb 255 (length v) l)
-      ∙ cond-false (passes o b (changed m t (Some v))) (Err NoRoom) (Ok tt) p)
+    ∙ cond-false (passes o b (changed m t (Some v))) (Err NoRoom) (Ok tt) p)

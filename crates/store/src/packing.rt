@@ -36,7 +36,14 @@ pub trait Pack: ReadStore {
 }
 
 // Whether `n` bytes may take the place of a value of length `held`, in a store of that many objects and value bytes.
-fn room(objects: usize, bytes: usize, count: usize, total: usize, held: Option<usize>, n: usize) -> bool
+fn room(
+    objects: usize,
+    bytes: usize,
+    count: usize,
+    total: usize,
+    held: Option<usize>,
+    n: usize,
+) -> bool
     requires { ⌜ (count ≤ objects) × (total ≤ bytes) × Cases held (Unit {0}) (λ l. l ≤ total) ⌝ }
     ensures { λ r. ⌜ r ≡ not (ltb objects (count-after count held) || ltb bytes (total-after total held n)) ⌝ }
 {
@@ -53,19 +60,24 @@ fn has_room<S: ReadStore>(s: &S, tag: Tag, value: &[u8], held: Option<usize>) ->
 {
     let count = s.object_count();
     let total = s.byte_total();
-    room(s.object_limit(), s.byte_limit(), count, total, held, value.len())
+    room(
+        s.object_limit(),
+        s.byte_limit(),
+        count,
+        total,
+        held,
+        value.len(),
+    )
 }
 
-// Putting, for every such store: a value of the same length is written over the old one; else the old one is taken out,
+// Puts a value of at most 255 bytes: one of the same length is written over the old one; else the old one is taken out,
 // which moves what lies behind it once, and the new one is added at the end.
-pub fn put_in<S: Pack>(s: &mut S, tag: Tag, value: &[u8]) -> Result<(), Refused>
+fn put_short<S: Pack>(s: &mut S, tag: Tag, value: &[u8]) -> Result<(), Refused>
+    requires { ⌜ length (now value) ≤ 255 ⌝ }
     ensures answer { λ r. ⌜ r ≡ put-answer (S·ReadStore .objects (now (s .entry))) (S·ReadStore .bytes (now (s .entry))) (S·ReadStore .held (now (s .entry))) (tag .value) (now (value .entry)) ⌝ }
     ensures after { λ r. ⌜ S·ReadStore .held (now (s .exit)) ≡ put-after r (S·ReadStore .held (now (s .entry))) (tag .value) (now (value .entry)) ⌝ }
     ensures limits { λ r. ⌜ S·ReadStore .objects (now (s .exit)) ≡ S·ReadStore .objects (now (s .entry)) ⌝ ∗ ⌜ S·ReadStore .bytes (now (s .exit)) ≡ S·ReadStore .bytes (now (s .entry)) ⌝ }
 {
-    if value.len() > 255 {
-        return Err(Refused::TooLong);
-    }
     let held = s.length_of(tag);
     if !has_room(s, tag, value, held) {
         return Err(Refused::NoRoom);
@@ -79,4 +91,16 @@ pub fn put_in<S: Pack>(s: &mut S, tag: Tag, value: &[u8]) -> Result<(), Refused>
     s.take_out(tag);
     s.append(tag, value);
     Ok(())
+}
+
+// Putting, for every such store.
+pub fn put_in<S: Pack>(s: &mut S, tag: Tag, value: &[u8]) -> Result<(), Refused>
+    ensures answer { λ r. ⌜ r ≡ put-answer (S·ReadStore .objects (now (s .entry))) (S·ReadStore .bytes (now (s .entry))) (S·ReadStore .held (now (s .entry))) (tag .value) (now (value .entry)) ⌝ }
+    ensures after { λ r. ⌜ S·ReadStore .held (now (s .exit)) ≡ put-after r (S·ReadStore .held (now (s .entry))) (tag .value) (now (value .entry)) ⌝ }
+    ensures limits { λ r. ⌜ S·ReadStore .objects (now (s .exit)) ≡ S·ReadStore .objects (now (s .entry)) ⌝ ∗ ⌜ S·ReadStore .bytes (now (s .exit)) ≡ S·ReadStore .bytes (now (s .entry)) ⌝ }
+{
+    if value.len() > 255 {
+        return Err(Refused::TooLong);
+    }
+    put_short(s, tag, value)
 }

@@ -40,7 +40,7 @@ pub enum StepAnswer {
 
 impl Part {
     // Its bytes.
-    pub fn of(self, text: &[u8]) -> &[u8]
+    fn of(self, text: &[u8]) -> &[u8]
         ensures { λ r. ⌜ now r ≡ value-in (now (text .entry)) self ⌝ }
     {
         let start = self.start.min(text.len());
@@ -71,7 +71,13 @@ pub fn do_step<S: WriteStore>(store: &mut S, text: &[u8], step: Step) -> StepAns
 }
 
 // Does the first `n` steps in turn.
-fn run_first<S: WriteStore>(store: &mut S, text: &[u8], steps: &[Step], answers: &mut [StepAnswer], n: usize)
+fn run_first<S: WriteStore>(
+    store: &mut S,
+    text: &[u8],
+    steps: &[Step],
+    answers: &mut [StepAnswer],
+    n: usize,
+)
     requires { ⌜ (n ≤ length (now steps)) × (n ≤ length (now answers)) ⌝ }
     ensures answers { λ _. ⌜ now (answers .exit) ≡ answers-of (S·ReadStore .objects (now (store .entry))) (S·ReadStore .bytes (now (store .entry))) (now (text .entry)) (S·ReadStore .held (now (store .entry))) (take n (now (steps .entry))) ++ drop n (now (answers .entry)) ⌝ }
     ensures after { λ _. ⌜ S·ReadStore .held (now (store .exit)) ≡ map-after (S·ReadStore .objects (now (store .entry))) (S·ReadStore .bytes (now (store .entry))) (now (text .entry)) (S·ReadStore .held (now (store .entry))) (take n (now (steps .entry))) ⌝ }
@@ -84,7 +90,12 @@ fn run_first<S: WriteStore>(store: &mut S, text: &[u8], steps: &[Step], answers:
 
 // Does the steps in turn, as many as there are places for answers, and puts the answers into the places' front; how
 // many steps were done. The answers and the map after them are told by the map, the limits and the steps alone.
-pub fn run_steps<S: WriteStore>(store: &mut S, text: &[u8], steps: &[Step], answers: &mut [StepAnswer]) -> usize
+pub fn run_steps<S: WriteStore>(
+    store: &mut S,
+    text: &[u8],
+    steps: &[Step],
+    answers: &mut [StepAnswer],
+) -> usize
     ensures done { λ r. ⌜ r ≡ min (length (now (steps .entry))) (length (now (answers .entry))) ⌝ }
     ensures answers { λ r. ⌜ now (answers .exit) ≡ answers-of (S·ReadStore .objects (now (store .entry))) (S·ReadStore .bytes (now (store .entry))) (now (text .entry)) (S·ReadStore .held (now (store .entry))) (take r (now (steps .entry))) ++ drop r (now (answers .entry)) ⌝ }
     ensures after { λ r. ⌜ S·ReadStore .held (now (store .exit)) ≡ map-after (S·ReadStore .objects (now (store .entry))) (S·ReadStore .bytes (now (store .entry))) (now (text .entry)) (S·ReadStore .held (now (store .entry))) (take r (now (steps .entry))) ⌝ }
@@ -95,10 +106,38 @@ pub fn run_steps<S: WriteStore>(store: &mut S, text: &[u8], steps: &[Step], answ
     n
 }
 
+// Does the first `n` steps in turn over two stores.
+fn run_pair<A: WriteStore, B: WriteStore>(
+    a: &mut A,
+    b: &mut B,
+    text: &[u8],
+    steps: &[Step],
+    first: &mut [StepAnswer],
+    second: &mut [StepAnswer],
+    n: usize,
+)
+    requires { ⌜ (n ≤ length (now steps)) × (n ≤ length (now first)) × (n ≤ length (now second)) ⌝ }
+    ensures first { λ _. ⌜ now (first .exit) ≡ answers-of (A·ReadStore .objects (now (a .entry))) (A·ReadStore .bytes (now (a .entry))) (now (text .entry)) (A·ReadStore .held (now (a .entry))) (take n (now (steps .entry))) ++ drop n (now (first .entry)) ⌝ }
+    ensures second { λ _. ⌜ now (second .exit) ≡ answers-of (B·ReadStore .objects (now (b .entry))) (B·ReadStore .bytes (now (b .entry))) (now (text .entry)) (B·ReadStore .held (now (b .entry))) (take n (now (steps .entry))) ++ drop n (now (second .entry)) ⌝ }
+    ensures after { λ _. ⌜ A·ReadStore .held (now (a .exit)) ≡ map-after (A·ReadStore .objects (now (a .entry))) (A·ReadStore .bytes (now (a .entry))) (now (text .entry)) (A·ReadStore .held (now (a .entry))) (take n (now (steps .entry))) ⌝ ∗ ⌜ B·ReadStore .held (now (b .exit)) ≡ map-after (B·ReadStore .objects (now (b .entry))) (B·ReadStore .bytes (now (b .entry))) (now (text .entry)) (B·ReadStore .held (now (b .entry))) (take n (now (steps .entry))) ⌝ }
+    ensures alike { λ _. ⌜ (A·ReadStore .held (now (a .entry)) ≡ B·ReadStore .held (now (b .entry)) → A·ReadStore .objects (now (a .entry)) ≡ B·ReadStore .objects (now (b .entry)) → A·ReadStore .bytes (now (a .entry)) ≡ B·ReadStore .bytes (now (b .entry)) → SameAnswers (A·ReadStore .objects (now (a .entry))) (A·ReadStore .bytes (now (a .entry))) (now (text .entry)) (A·ReadStore .held (now (a .entry))) (now (steps .entry)) n (now (first .exit)) (now (second .exit)) (A·ReadStore .held (now (a .exit))) (B·ReadStore .held (now (b .exit)))) ⌝ }
+    ensures limits { λ _. ⌜ (A·ReadStore .objects (now (a .exit)) ≡ A·ReadStore .objects (now (a .entry))) × (A·ReadStore .bytes (now (a .exit)) ≡ A·ReadStore .bytes (now (a .entry))) ⌝ ∗ ⌜ (B·ReadStore .objects (now (b .exit)) ≡ B·ReadStore .objects (now (b .entry))) × (B·ReadStore .bytes (now (b .exit)) ≡ B·ReadStore .bytes (now (b .entry))) ⌝ }
+{
+    run_first(a, text, steps, first, n);
+    run_first(b, text, steps, second, n);
+}
+
 // Does the steps in turn over two stores, as many as both have places for answers; how many were done. Stores that
 // start with equal maps and equal limits give the same answers, those of the map, and have equal maps after, whatever
 // their make.
-pub fn run_both<A: WriteStore, B: WriteStore>(a: &mut A, b: &mut B, text: &[u8], steps: &[Step], first: &mut [StepAnswer], second: &mut [StepAnswer]) -> usize
+pub fn run_both<A: WriteStore, B: WriteStore>(
+    a: &mut A,
+    b: &mut B,
+    text: &[u8],
+    steps: &[Step],
+    first: &mut [StepAnswer],
+    second: &mut [StepAnswer],
+) -> usize
     ensures done { λ r. ⌜ r ≡ min (length (now (steps .entry))) (min (length (now (first .entry))) (length (now (second .entry)))) ⌝ }
     ensures first { λ r. ⌜ now (first .exit) ≡ answers-of (A·ReadStore .objects (now (a .entry))) (A·ReadStore .bytes (now (a .entry))) (now (text .entry)) (A·ReadStore .held (now (a .entry))) (take r (now (steps .entry))) ++ drop r (now (first .entry)) ⌝ }
     ensures second { λ r. ⌜ now (second .exit) ≡ answers-of (B·ReadStore .objects (now (b .entry))) (B·ReadStore .bytes (now (b .entry))) (now (text .entry)) (B·ReadStore .held (now (b .entry))) (take r (now (steps .entry))) ++ drop r (now (second .entry)) ⌝ }
@@ -107,7 +146,6 @@ pub fn run_both<A: WriteStore, B: WriteStore>(a: &mut A, b: &mut B, text: &[u8],
     ensures limits { λ _. ⌜ (A·ReadStore .objects (now (a .exit)) ≡ A·ReadStore .objects (now (a .entry))) × (A·ReadStore .bytes (now (a .exit)) ≡ A·ReadStore .bytes (now (a .entry))) ⌝ ∗ ⌜ (B·ReadStore .objects (now (b .exit)) ≡ B·ReadStore .objects (now (b .entry))) × (B·ReadStore .bytes (now (b .exit)) ≡ B·ReadStore .bytes (now (b .entry))) ⌝ }
 {
     let n = steps.len().min(first.len().min(second.len()));
-    run_first(a, text, steps, first, n);
-    run_first(b, text, steps, second, n);
+    run_pair(a, b, text, steps, first, second, n);
     n
 }

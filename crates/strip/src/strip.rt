@@ -31,8 +31,18 @@ impl<'a> Strip<'a> {
         ensures bytes { λ r. ⌜ r .parts .bytes ≡ byte-room (length (now (area .entry))) objects ⌝ }
     {
         let len = area.len();
-        let (objects, bytes) = if objects <= len / 5 { (objects, len - 5 * objects) } else { (0, 0) };
-        let parts = Parts { area, objects, bytes, count: 0, used: 0 };
+        let (objects, bytes) = if objects <= len / 5 {
+            (objects, len - 5 * objects)
+        } else {
+            (0, 0)
+        };
+        let parts = Parts {
+            area,
+            objects,
+            bytes,
+            count: 0,
+            used: 0,
+        };
         Strip { parts }
     }
 }
@@ -91,6 +101,6 @@ pub impl<'a> WriteStore for Strip<'a> as StripWrite {
     }
 
     fn remove(&mut self, tag: Tag) -> bool {
-        self.parts.remove(tag)
+        self.take_out(tag)
     }
 }

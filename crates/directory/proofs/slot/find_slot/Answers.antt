@@ -11,7 +11,7 @@ pub returns-then-s-number : need.returns-then-s-number
 returns-then-s-number c =
     let s : Slot = getD (c .args .slots .now) (c .loop-i .i) (slot 0 0) in
     let n = passed-next (c .args .slots .now) (c .args .tag .value) (c .loop-i .i) (c .loop-i .start) s (c .loop-i .inv) (c .loop-i-test .taken)
-      (getD-default (c .args .slots .now) (c .loop-i .i) (slot 0 0) s (c .loop-i-test .taken)) in
+    (getD-default (c .args .slots .now) (c .loop-i .i) (slot 0 0) s (c .loop-i-test .taken)) in
     next-at (c .args .slots .now) (c .args .tag .value) (c .loop-i .i) (c .loop-i .start) s n (c .loop-i-test .taken)
     (c .if-s-number .taken ∙ c .number .ensures)
 
@@ -19,14 +19,14 @@ pub add-start : need.add-start
 add-start c =
     let s : Slot = getD (c .args .slots .now) (c .loop-i .i) (slot 0 0) in
     let n = passed-next (c .args .slots .now) (c .args .tag .value) (c .loop-i .i) (c .loop-i .start) s (c .loop-i .inv) (c .loop-i-test .taken)
-      (getD-default (c .args .slots .now) (c .loop-i .i) (slot 0 0) s (c .loop-i-test .taken)) in
+    (getD-default (c .args .slots .now) (c .loop-i .i) (slot 0 0) s (c .loop-i-test .taken)) in
     omega (arith, n .room, c .pre)
 
 pub loop-i-again : need.loop-i-again
 loop-i-again c =
     let s : Slot = getD (c .args .slots .now) (c .loop-i .i) (slot 0 0) in
     let n = passed-next (c .args .slots .now) (c .args .tag .value) (c .loop-i .i) (c .loop-i .start) s (c .loop-i .inv) (c .loop-i-test .taken)
-      (getD-default (c .args .slots .now) (c .loop-i .i) (slot 0 0) s (c .loop-i-test .taken)) in
+    (getD-default (c .args .slots .now) (c .loop-i .i) (slot 0 0) s (c .loop-i-test .taken)) in
     next-more (c .args .slots .now) (c .args .tag .value) (c .loop-i .i) (c .loop-i .start) s n
     (λ e. c .if-s-number .left (e ∙ sym (c .number .ensures)))
 

@@ -14,7 +14,7 @@ returns-in-Filled g c =
     record {
       answer = c .in-Filled .ensures tt .answer ∙ sym (copy-answer-masked pad t o (length d));
       after = copy-filled-masked pad t o d (c .copy-out-copied .last .out) (c .apply .last .text) (c .in-Filled .n) (c .in-Filled .n - 0) (omega arith)
-        (c .in-Filled .ensures tt .answer) (c .copy-out-copied .ensures .after) (c .apply .ensures);
+          (c .in-Filled .ensures tt .answer) (c .copy-out-copied .ensures .after) (c .apply .ensures);
     }
 
 pub returns-in-rest : need.returns-in-rest
@@ -26,5 +26,5 @@ returns-in-rest g c =
     record {
       answer = c .copy-out-copied .ensures .answer ∙ sym (copy-answer-masked pad t o (length d));
       after = copy-rest-masked pad t o d (c .copy-out-copied .last .out)
-        (λ n e. c .in-rest .not-Filled n (c .copy-out-copied .ensures .answer ∙ e)) (c .copy-out-copied .ensures .after);
+          (λ n e. c .in-rest .not-Filled n (c .copy-out-copied .ensures .answer ∙ e)) (c .copy-out-copied .ensures .after);
     }

@@ -13,7 +13,7 @@ returns g c =
     let e : x ≡ masked pad t v = c .apply .ensures ∙ ap (masked pad t) (c .copy-from-slice .ensures .after) in
     record {
       answer = c .put .ensures .answer
-        ∙ put-answer-masked pad (g .S·ReadStore .objects (c .args .self .now .lower)) (g .S·ReadStore .bytes (c .args .self .now .lower)) m t v x e;
+          ∙ put-answer-masked pad (g .S·ReadStore .objects (c .args .self .now .lower)) (g .S·ReadStore .bytes (c .args .self .now .lower)) m t v x e;
       after = put-after-masked pad (c .put .result) m (g .S·ReadStore .held (c .put .last .self)) t v x e (c .put .ensures .after);
       limits = c .put .ensures .limits;
     }

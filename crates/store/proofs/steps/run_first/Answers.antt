@@ -18,10 +18,12 @@ loop-i-again g c =
     let s = c .index-steps-i .result in
     let x = c .do-step .result in
     let answer : x ≡ step-answer o b text m₁ s =
-      c .do-step .ensures .answer ∙ ap (λ k. step-answer k b₁ text m₁ s) (c .loop-i .inv .2) ∙ ap (λ k. step-answer o k text m₁ s) (c .loop-i .inv .3) in
+    c .do-step .ensures .answer ∙ ap (λ k. step-answer k b₁ text m₁ s) (c .loop-i .inv .2) ∙ ap (λ k. step-answer o k text m₁ s) (c .loop-i .inv .3) in
     let after : m₂ ≡ step-after o b text m₁ s =
-      c .do-step .ensures .after ∙ ap (λ k. step-after k b₁ text m₁ s) (c .loop-i .inv .2) ∙ ap (λ k. step-after o k text m₁ s) (c .loop-i .inv .3) in
-    (answers-more o b text m m₁ (c .args .steps .now) (c .args .answers .now) (c .loop-i .answers) (c .loop-i .i) s x
-      (omega arith) (omega arith) (c .index-steps-i .is) (c .loop-i .inv .1) answer (c .loop-i .inv .0),
+    c .do-step .ensures .after ∙ ap (λ k. step-after k b₁ text m₁ s) (c .loop-i .inv .2) ∙ ap (λ k. step-after o k text m₁ s) (c .loop-i .inv .3) in (
+      answers-more o b text m m₁ (c .args .steps .now) (c .args .answers .now) (c .loop-i .answers) (c .loop-i .i) s x
+          (omega arith) (omega arith) (c .index-steps-i .is) (c .loop-i .inv .1) answer (c .loop-i .inv .0),
       map-more o b text m m₁ m₂ (c .args .steps .now) (c .loop-i .i) s (omega arith) (c .index-steps-i .is) (c .loop-i .inv .1) after,
-      c .do-step .ensures .limits .0 ∙ c .loop-i .inv .2, c .do-step .ensures .limits .1 ∙ c .loop-i .inv .3)
+      c .do-step .ensures .limits .0 ∙ c .loop-i .inv .2,
+      c .do-step .ensures .limits .1 ∙ c .loop-i .inv .3,
+    )

@@ -43,7 +43,7 @@ pub loop-i-again : need.loop-i-again
 loop-i-again c =
     let h = laid-here (c .args .count) (c .args .area .now) (c .args .tag .value) (c .loop-i .-i) (c .loop-i .at) (c .pre) (c .loop-i-test .taken) (c .loop-i .inv) in
     let m = here-more (c .args .area .now) (entries (c .args .count) (c .args .area .now)) (c .args .tag .value) (c .loop-i .-i) (c .loop-i .at) h
-      (λ e. c .if-tag-at-number .left (c .tag-at .ensures ∙ e ∙ sym (c .number .ensures))) in
+    (λ e. c .if-tag-at-number .left (c .tag-at .ensures ∙ e ∙ sym (c .number .ensures))) in
     subst (λ (x : ℕ). Walk (entries (c .args .count) (c .args .area .now)) (c .args .tag .value) (c .loop-i .-i + 1) (c .loop-i .at + (5 + x))) (sym (c .length-at .ensures)) m
 
 pub returns : need.returns

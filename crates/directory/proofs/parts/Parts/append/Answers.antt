@@ -29,9 +29,9 @@ returns c =
     let ls : length ss′ ≡ length ss = length-set ss n (slot (c .number .result) z) in
     let lv : length vs′ ≡ length vs = length-putMid u (u + z - u) vs (c .copy-from-slice .last .self) (omega (arith, room .2)) (omega arith) in
     let slots : take (n + 1) ss′ ≡ take n ss ++ slot t z ∷ [] =
-      take-more-set ss n (slot (c .number .result) z) (room .1) ∙ ap (λ x. take n ss ++ slot x z ∷ []) (c .number .ensures) in
+    take-more-set ss n (slot (c .number .result) z) (room .1) ∙ ap (λ x. take n ss ++ slot x z ∷ []) (c .number .ensures) in
     let values : take (u + z) vs′ ≡ take u vs ++ v =
-      take-putMid u (u + z - u) vs (c .copy-from-slice .last .self) (u + z) (omega arith) (omega (arith, room .2)) ∙ ap (λ xs. take u vs ++ xs) same in
+    take-putMid u (u + z - u) vs (c .copy-from-slice .last .self) (u + z) (omega arith) (omega (arith, room .2)) ∙ ap (λ xs. take u vs ++ xs) same in
     let h = ordered-push n u ss ss′ vs vs′ t v (n + 1) (u + z) (c .pre .0) (c .pre .1) (c .args .tag .ok) (room .0) slots values
-      (omega (arith, room .1)) (omega (arith, room .2)) in
+    (omega (arith, room .1)) (omega (arith, room .2)) in
     record { sound = h .sound; after = h .map; limits = (ls, lv) }

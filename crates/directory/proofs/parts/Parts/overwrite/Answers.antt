@@ -22,12 +22,12 @@ returns-in-Some c =
     let w = c .args .value .now in
     let z : ℕ = length (c .args .value .now) in
     let same : length (take (p .size) (drop at vs)) ≡ z =
-      held-length (filed-map n u ss vs t) z (c .pre .1) (take (p .size) (drop at vs)) (k .here) in
+    held-length (filed-map n u ss vs t) z (c .pre .1) (take (p .size) (drop at vs)) (k .here) in
     let new : List ℕ = putMid at (at + z - at) vs (c .copy-from-slice .last .self) in
     let long : length new ≡ length vs =
-      length-putMid at (at + z - at) vs (c .copy-from-slice .last .self) (omega (arith, k .inside, k .long)) (omega (arith, ap length (c .copy-from-slice .ensures .after))) in
+    length-putMid at (at + z - at) vs (c .copy-from-slice .last .self) (omega (arith, k .inside, k .long)) (omega (arith, ap length (c .copy-from-slice .ensures .after))) in
     let h = ordered-over n u ss vs new (c .copy-from-slice .last .self) t (p .index) at (p .size) (at + z - at) w (c .pre .0) (k .slot)
-      (omega (arith, k .long)) (omega (arith, k .long)) (c .copy-from-slice .ensures .after) refl long in
+    (omega (arith, k .long)) (omega (arith, k .long)) (c .copy-from-slice .ensures .after) refl long in
     record { sound = h .sound; after = h .map; limits = (refl, long) }
 
 pub returns-in-rest : need.returns-in-rest

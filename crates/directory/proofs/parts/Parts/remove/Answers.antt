@@ -14,7 +14,7 @@ returns-in-Some c =
     let p = c .in-Some .p in
     let k = c .in-Some .ensures tt in
     let h = ordered-cut n u ss (c .copy-within .last .self) vs (c .copy-within-in-Some .last .self) t (p .index) (p .start) (p .size) (n - 1) (u - p .size)
-      (c .pre) (k .slot) (c .copy-within .ensures .len) (c .copy-within-in-Some .ensures .len) (c .copy-within .ensures .after) (c .copy-within-in-Some .ensures .after) refl refl in
+    (c .pre) (k .slot) (c .copy-within .ensures .len) (c .copy-within-in-Some .ensures .len) (c .copy-within .ensures .after) (c .copy-within-in-Some .ensures .after) refl refl in
     record {
       sound = h .sound;
       answer = sym (ap isSome (k .here));

@@ -29,7 +29,7 @@ returns-in-Some c =
     let lw : length (c .copy-from-slice .last .self) ≡ z = ap length (c .copy-from-slice .ensures .after) in
     let long : length new ≡ length a = length-putMid (at + 5) (at + 5 + z - (at + 5)) a (c .copy-from-slice .last .self) (omega (arith, k .room, c .pre .0 .3)) (omega arith) in
     let h = sound-over (c .args .self .now .objects) (c .args .self .now .bytes) n u a new (c .copy-from-slice .last .self) t at (at + 5 + z - (at + 5)) w
-      (c .pre .0) k same (omega arith) (c .copy-from-slice .ensures .after) refl long in
+    (c .pre .0) k same (omega arith) (c .copy-from-slice .ensures .after) refl long in
     record { sound = h .sound; after = h .map; limits = (refl, refl) }
 
 pub returns-in-rest : need.returns-in-rest
@@ -38,4 +38,4 @@ returns-in-rest c =
     let bs : List ℕ = take (c .args .self .now .used) (c .args .self .now .area .now) in
     let t = c .args .tag .value in
     absurd (never-absent (lookup (entries n bs) t) (length (c .args .value .now)) (c .pre .1)
-      (ap (λ xs. lookup (entries n xs) t) (sym (c .text .ensures)) ∙ c .in-rest .ensures tt))
+    (ap (λ xs. lookup (entries n xs) t) (sym (c .text .ensures)) ∙ c .in-rest .ensures tt))

@@ -17,9 +17,9 @@ returns-in-Some c =
     let at = c .in-Some .at in
     let k : Spot bs (entries n bs) t at = subst (λ (xs : List ℕ). Spot xs (entries n xs) t at) (c .text .ensures) (c .in-Some .ensures tt) in
     let size : c .length-at-size .result ≡ length (k .v) =
-      c .length-at-size .ensures ∙ ap (λ xs. front-length (drop at xs)) (c .text-in-Some .ensures) ∙ k .len in
+    c .length-at-size .ensures ∙ ap (λ xs. front-length (drop at xs)) (c .text-in-Some .ensures) ∙ k .len in
     let h = sound-cut (c .args .self .now .objects) (c .args .self .now .bytes) (c .args .self .now .count) (c .args .self .now .used) (c .args .self .now .area .now)
-      (c .copy-within .last .self) t at (5 + c .length-at-size .result) (n - 1) (c .args .self .now .used - (5 + c .length-at-size .result))
-      (c .args .self .now .used - (at + (5 + c .length-at-size .result)))
-      (c .pre) k (ap (λ x. 5 + x) size) (c .copy-within .ensures .len) (c .copy-within .ensures .after) refl refl refl in
+    (c .copy-within .last .self) t at (5 + c .length-at-size .result) (n - 1) (c .args .self .now .used - (5 + c .length-at-size .result))
+    (c .args .self .now .used - (at + (5 + c .length-at-size .result)))
+    (c .pre) k (ap (λ x. 5 + x) size) (c .copy-within .ensures .len) (c .copy-within .ensures .after) refl refl refl in
     record { sound = h .sound; answer = sym (ap isSome (k .here)); after = h .map; limits = (refl, refl) }

@@ -7,7 +7,7 @@ use Rattle.store.specs.Map.{changed}
 use Rattle.store.specs.Answer.{passes}
 use Rattle.store.specs.Maps.{changed-here, changed-changed}
 use Rattle.store.proofs.Rooms.{room-left, put-taken}
-use Rattle.store.proofs.packing.put_in.Needs as need
+use Rattle.store.proofs.packing.put_short.Needs as need
 
 pub append-requires : need.append-requires
 append-requires g c κs =
@@ -23,7 +23,7 @@ append-requires g c κs =
     let lb = c .take-out .ensures .limits .1 in
     record {
       absent = ap (λ k. k t) (c .take-out .ensures .after) ∙ changed-here m t None;
-      room = (omega (arith, c .if-value-gt255 .left), omega (arith, left .0), omega (arith, left .1));
+      room = (omega (arith, c .pre), omega (arith, left .0), omega (arith, left .1));
     }
 
 pub returns : need.returns
@@ -36,7 +36,7 @@ returns g c =
     let b = g .S·ReadStore .bytes s in
     let fits : passes o b (changed m t (Some v)) ≡ false = not-true (passes o b (changed m t (Some v))) (sym (c .if-not-has-room .ensures tt)) in
     record {
-      answer = put-taken o b m t v (c .if-value-gt255 .left) fits;
+      answer = put-taken o b m t v (c .pre) fits;
       after = c .append .ensures .after ∙ ap (λ k. changed k t (Some v)) (c .take-out .ensures .after) ∙ changed-changed m t None (Some v);
       limits = (c .append .ensures .limits .0 ∙ c .take-out .ensures .limits .0, c .append .ensures .limits .1 ∙ c .take-out .ensures .limits .1);
     }

@@ -7,7 +7,7 @@ use Rattle.keyed.specs.declared.tag.Tag.{Tag}
 use Rattle.std.proofs.shelf.Lists.{at-drop-more, at-drop-all}
 use Rattle.store.specs.Steps.{cleared}
 use Rattle.store.specs.Map.{Map, changed}
-use Rattle.store.proofs.dropping.remove_all.Needs as need
+use Rattle.store.proofs.dropping.remove_each.Needs as need
 
 pub loop-t-again : need.loop-t-again
 loop-t-again g c =
@@ -19,4 +19,4 @@ loop-t-again g c =
 pub returns : need.returns
 returns g c =
     let e = at-drop-all (λ ts. cleared ts (g .S·ReadStore .held (c .loop-t .store))) (c .args .tags .now) (c .loop-t .t-index) (search needs) in
-    record { after = sym e ∙ c .loop-t .inv .0 ; limits = (c .loop-t .inv .1, c .loop-t .inv .2) }
+    record { after = sym e ∙ c .loop-t .inv .0; limits = (c .loop-t .inv .1, c .loop-t .inv .2) }

@@ -1,7 +1,7 @@
 use mathlib.Core.Path.{_≡_}
 use lib.ListN.{drop}
 use Rattle.store.specs.Steps.{cleared}
-use Rattle.store.proofs.dropping.remove_all.Given as given
+use Rattle.store.proofs.dropping.remove_each.Given as given
 
 abbrev pub Inv-loop-t : given.InvT-loop-t
 Inv-loop-t g l =
