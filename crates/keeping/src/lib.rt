@@ -1,0 +1,3 @@
+// What a store keeps: the shares of its writers, texts taken into it, what is cleared, and the reader's own two objects.
+pub mod refusal;
+pub mod shares;
