@@ -1,0 +1,6 @@
+pub mod Keepings
+pub mod Refills
+pub mod Sharing
+pub mod Clearings
+pub mod Rooms
+pub mod Kept

@@ -6,3 +6,4 @@ pub mod Opening
 pub mod Clearing
 pub mod Taking
 pub mod Own
+pub mod Steps

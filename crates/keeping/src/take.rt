@@ -1,0 +1,58 @@
+// Taking a text: read, judged, weighed, and stored.
+ghost use mathlib.Core.Path.{_≡_};
+ghost use Prim.Native.Nat.{_≤_};
+ghost use lib.ListN.{length, take};
+ghost use Rattle.std.specs.Vec.{made};
+ghost use Rattle.std.specs.declared.result.Result.the-variants.{Err};
+ghost use Rattle.keeping.specs.Room.{Roomy};
+ghost use Rattle.keeping.specs.Steps.{answered, Weighed};
+ghost use Rattle.keeping.specs.Taking.{takeAnswer, takeAfter};
+use crate::keep::keep_text;
+use crate::refusal::TakeRefusal;
+use crate::refusal::TakeRefusalFromJudgeRefusal;
+use crate::shares::Shares;
+use crate::total::total_after;
+use judge::kind::TextKind;
+use judge::text::judge_text;
+use store::reading::ReadStore;
+use store::writing::WriteStore;
+use tlv::place::Place;
+
+// Reads a text into the work list, judges it and weighs its writer's bytes: how many objects it has.
+fn weigh<S: ReadStore>(
+    store: &S,
+    shares: &Shares,
+    kind: TextKind,
+    text: &[u8],
+    list: &mut [Place],
+) -> Result<usize, TakeRefusal>
+    ensures answer { λ r. ⌜ answered r ≡ takeAnswer (now (shares .entry)) kind (length (now (list .entry))) (S·ReadStore .held (now (store .entry))) (now (text .entry)) ⌝ }
+    ensures weighed { λ r. ⌜ made r (λ n. (n ≤ length (now (list .exit))) × Weighed (now (shares .entry)) kind (S·ReadStore .held (now (store .entry))) (now (text .entry)) (take n (now (list .exit)))) ⌝ }
+{
+    let count = judge_text(store, kind, text, list)?;
+    if total_after(store, kind, text, &list[..count]) > shares.of(kind) {
+        return Err(TakeRefusal::Share);
+    }
+    Ok(count)
+}
+
+// Takes a text whole, or refuses it and leaves what is held as it was: read into the work list, judged, weighed against
+// its writer's share, and stored. From opening on the store has room for what is taken. What the work list holds
+// afterwards is left free.
+pub fn take_text<S: WriteStore>(
+    store: &mut S,
+    shares: &Shares,
+    kind: TextKind,
+    text: &[u8],
+    list: &mut [Place],
+) -> Result<(), TakeRefusal>
+    ensures answer { λ r. ⌜ r ≡ takeAnswer (now (shares .entry)) kind (length (now (list .entry))) (S·ReadStore .held (now (store .entry))) (now (text .entry)) ⌝ }
+    ensures refused { λ r. ⌜ ((e : TakeRefusal) → r ≡ Err e → S·ReadStore .held (now (store .exit)) ≡ S·ReadStore .held (now (store .entry))) ⌝ }
+    ensures after { λ r. ⌜ (Roomy (now (shares .entry)) (S·ReadStore .objects (now (store .entry))) (S·ReadStore .bytes (now (store .entry))) (S·ReadStore .held (now (store .entry))) → S·ReadStore .held (now (store .exit)) ≡ takeAfter r (now (text .entry)) (S·ReadStore .held (now (store .entry)))) ⌝ }
+    ensures roomy { λ r. ⌜ (Roomy (now (shares .entry)) (S·ReadStore .objects (now (store .entry))) (S·ReadStore .bytes (now (store .entry))) (S·ReadStore .held (now (store .entry))) → Roomy (now (shares .entry)) (S·ReadStore .objects (now (store .exit))) (S·ReadStore .bytes (now (store .exit))) (S·ReadStore .held (now (store .exit)))) ⌝ }
+    ensures limits { λ _. ⌜ S·ReadStore .objects (now (store .exit)) ≡ S·ReadStore .objects (now (store .entry)) ⌝ ∗ ⌜ S·ReadStore .bytes (now (store .exit)) ≡ S·ReadStore .bytes (now (store .entry)) ⌝ }
+{
+    let count = weigh(store, shares, kind, text, list)?;
+    keep_text(store, shares, kind, text, &list[..count]);
+    Ok(())
+}
