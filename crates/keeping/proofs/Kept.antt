@@ -30,9 +30,11 @@ use Rattle.judge.specs.Accepted.{FitsBy, AllFit}
 use Rattle.keeping.specs.Keeping.{stored, storedText}
 use Rattle.keeping.specs.Shares.{partOf, partsOf, writerTotal, shareOf}
 use Rattle.keeping.specs.Room.{verificationResults, errorIndication, Roomy}
+use Rattle.keeping.specs.Replacing.{Replaced}
 use Rattle.keeping.specs.Steps.{Holds, Weighed}
 use Rattle.keeping.proofs.Refills.{lastBy, lastOf, stored-at}
 use Rattle.keeping.proofs.Rooms.{roomy-holds}
+use Rattle.keeping.proofs.Replacings.{replaced}
 
 -- a known object of an accepted text is of that kind's writers
 abbrev Own : TextKind → Place → Type 0
@@ -175,21 +177,36 @@ roomy-stored s o b k m text ps a l r =
       space = r .space;
     }
 
--- storing a weighed text
+-- the room stays where neither the map nor the limits change
+pub roomy-moved : (s : Shares) (o b o′ b′ : ℕ) (m n : Map) → n ≡ m → o′ ≡ o → b′ ≡ b → Roomy s o b m → Roomy s o′ b′ n
+roomy-moved s o b o′ b′ m n is p q r =
+    let R : Map → Type 0 = λ x. Roomy s o b x in
+    let got = subst R (sym is) r in
+    record {
+      known = got .known;
+      within = got .within;
+      verification = got .verification;
+      indication = got .indication;
+      slots = omega (arith, got .slots);
+      space = omega (arith, got .space);
+    }
+
+-- what storing a weighed text gives
+pub record Stored (s : Shares) (o b : ℕ) (text : List ℕ) (m n : Map) : Type 0 where
+  pub map : n ≡ storedText text m
+  pub roomy : Roomy s o b n
+  pub replaced : Replaced text m n
+
 pub kept : (s : Shares) (o b o′ b′ : ℕ) (k : TextKind) (m M : Map) (text : List ℕ) (ps : List Place) → Weighed s k m text ps
-    → (Holds o b (stored text ps m) → M ≡ stored text ps m) → o′ ≡ o → b′ ≡ b → Roomy s o b m → (M ≡ storedText text m) × Roomy s o′ b′ M
+    → (Holds o b (stored text ps m) → M ≡ stored text ps m) → o′ ≡ o → b′ ≡ b → Roomy s o b m → Stored s o′ b′ text m M
 kept s o b o′ b′ k m M text ps w after p q r =
     let roomy = roomy-stored s o b k m text ps (w .fits) (w .share) r in
     let is : M ≡ stored text ps m = after (roomy-holds s o b (stored text ps m) roomy) in
-    let R : Map → Type 0 = λ x. Roomy s o b x in
-    let got = subst R (sym is) roomy in (
-      is ∙ ap (λ x. stored text x m) (w .places),
-      record {
-        known = got .known;
-        within = got .within;
-        verification = got .verification;
-        indication = got .indication;
-        slots = omega (arith, got .slots);
-        space = omega (arith, got .space);
-      },
-    )
+    let whole : M ≡ storedText text m = is ∙ ap (λ x. stored text x m) (w .places) in
+    let F : List Place → Type 0 = λ x. AllFit k m text [] x in
+    let R : Map → Type 0 = λ x. Replaced text m x in
+    record {
+      map = whole;
+      roomy = roomy-moved s o b o′ b′ (stored text ps m) M is p q roomy;
+      replaced = subst R (sym whole) (replaced k m text (subst F (w .places) (w .fits)));
+    }

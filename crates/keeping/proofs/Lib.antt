@@ -1,5 +1,6 @@
 pub mod Keepings
 pub mod Refills
+pub mod Replacings
 pub mod Sharing
 pub mod Clearings
 pub mod Rooms

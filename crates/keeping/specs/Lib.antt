@@ -6,4 +6,5 @@ pub mod Opening
 pub mod Clearing
 pub mod Taking
 pub mod Own
+pub mod Replacing
 pub mod Steps

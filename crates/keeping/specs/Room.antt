@@ -1,6 +1,8 @@
 -- The room that opening gives: what holds of the store from opening on, so that no put is refused.
 use mathlib.Core.Path.{_≡_}
+use mathlib.Core.Bool.{Bool, cond, _||_}
 use Prim.Native.Nat.{ℕ, _+_, _≤_}
+use lib.Dec.{eqb}
 use Rattle.std.specs.declared.option.Option.the-variants.{None}
 use Rattle.dictionary.specs.Dictionary.{entryOf}
 use Rattle.store.specs.Map.{Map, size}
@@ -8,12 +10,19 @@ use Rattle.judge.specs.declared.kind.TextKind.{TextKind}
 use Rattle.keeping.specs.declared.shares.Shares.{Shares}
 use Rattle.keeping.specs.Shares.{writerTotal, shareOf}
 
--- the reader's own two objects: Terminal Verification Results of 5 bytes, Error Indication of 6
+-- the reader's own two objects
 abbrev pub verificationResults : ℕ
 verificationResults = 0x95
 
 abbrev pub errorIndication : ℕ
 errorIndication = 0xDF_8115
+
+abbrev pub readerTag : ℕ → Bool
+readerTag t = eqb t verificationResults || eqb t errorIndication
+
+-- how many bytes they have
+abbrev pub readerLength : ℕ → ℕ
+readerLength t = cond (eqb t verificationResults) 5 (cond (eqb t errorIndication) 6 0)
 
 -- the bytes that are the reader's
 abbrev pub readerShare : ℕ

@@ -4,6 +4,7 @@ ghost use Prim.Native.Nat.{_≤_};
 ghost use lib.ListN.{length, take};
 ghost use Rattle.std.specs.Vec.{made};
 ghost use Rattle.std.specs.declared.result.Result.the-variants.{Err};
+ghost use Rattle.keeping.specs.Replacing.{Replaced};
 ghost use Rattle.keeping.specs.Room.{Roomy};
 ghost use Rattle.keeping.specs.Steps.{answered, Weighed};
 ghost use Rattle.keeping.specs.Taking.{takeAnswer, takeAfter};
@@ -49,6 +50,7 @@ pub fn take_text<S: WriteStore>(
     ensures answer { λ r. ⌜ r ≡ takeAnswer (now (shares .entry)) kind (length (now (list .entry))) (S·ReadStore .held (now (store .entry))) (now (text .entry)) ⌝ }
     ensures refused { λ r. ⌜ ((e : TakeRefusal) → r ≡ Err e → S·ReadStore .held (now (store .exit)) ≡ S·ReadStore .held (now (store .entry))) ⌝ }
     ensures after { λ r. ⌜ (Roomy (now (shares .entry)) (S·ReadStore .objects (now (store .entry))) (S·ReadStore .bytes (now (store .entry))) (S·ReadStore .held (now (store .entry))) → S·ReadStore .held (now (store .exit)) ≡ takeAfter r (now (text .entry)) (S·ReadStore .held (now (store .entry)))) ⌝ }
+    ensures replaced { λ r. ⌜ made r (λ _. (Roomy (now (shares .entry)) (S·ReadStore .objects (now (store .entry))) (S·ReadStore .bytes (now (store .entry))) (S·ReadStore .held (now (store .entry))) → Replaced (now (text .entry)) (S·ReadStore .held (now (store .entry))) (S·ReadStore .held (now (store .exit))))) ⌝ }
     ensures roomy { λ r. ⌜ (Roomy (now (shares .entry)) (S·ReadStore .objects (now (store .entry))) (S·ReadStore .bytes (now (store .entry))) (S·ReadStore .held (now (store .entry))) → Roomy (now (shares .entry)) (S·ReadStore .objects (now (store .exit))) (S·ReadStore .bytes (now (store .exit))) (S·ReadStore .held (now (store .exit)))) ⌝ }
     ensures limits { λ _. ⌜ S·ReadStore .objects (now (store .exit)) ≡ S·ReadStore .objects (now (store .entry)) ⌝ ∗ ⌜ S·ReadStore .bytes (now (store .exit)) ≡ S·ReadStore .bytes (now (store .entry)) ⌝ }
 {

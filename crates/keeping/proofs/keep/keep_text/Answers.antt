@@ -8,7 +8,8 @@ returns g c =
     (c .args .kind) (g .S·ReadStore .held s) (g .S·ReadStore .held (c .store-places .last .store)) (c .args .text .now) (c .args .places .now) (c .pre)
     (c .store-places .ensures .after) (c .store-places .ensures .limits .0) (c .store-places .ensures .limits .1) in
     record {
-      after = λ r. k r .0;
-      roomy = λ r. k r .1;
+      after = λ r. k r .map;
+      roomy = λ r. k r .roomy;
+      replaced = λ r. k r .replaced;
       limits = (c .store-places .ensures .limits .0, c .store-places .ensures .limits .1);
     }
