@@ -4,3 +4,4 @@ pub mod fault;
 pub mod outcome;
 pub mod phase;
 pub mod refusal;
+pub mod theorems;
