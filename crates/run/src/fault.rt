@@ -125,7 +125,7 @@ pub impl From<AflFault> for Cause as CauseFromAflFault {
     ghost converts = { λ e r. r ≡ BadFileLocator };
 
     fn from(e: AflFault) -> Cause {
-        Cause::BadFileLocator
+        Self::BadFileLocator
     }
 }
 
@@ -133,7 +133,7 @@ pub impl From<WrongCryptogram> for Cause as CauseFromWrongCryptogram {
     ghost converts = { λ e r. r ≡ BadCryptogram };
 
     fn from(e: WrongCryptogram) -> Cause {
-        Cause::BadCryptogram
+        Self::BadCryptogram
     }
 }
 
