@@ -44,6 +44,11 @@ abbrev pub outcomeShown : Result OutcomeReport Refusal → List ℕ
 outcomeShown (Err e) = []
 outcomeShown (Ok r) = resultNumber (r .outcome) ∷ runFaultShown (outcomeFault (r .outcome))
 
+-- whether the outcome was told
+abbrev pub outcomeAsked : Result OutcomeReport Refusal → Shown
+outcomeAsked (Err e) = shown (refused e)
+outcomeAsked (Ok r) = takes
+
 -- What some calls, in their order, show, and at last: phase, count, the end, TVR, Error Indication and floor limit.
 pub record Seen : Type 0 where
   pub replies : List Shown
