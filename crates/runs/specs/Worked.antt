@@ -1,7 +1,8 @@
 -- Whole runs and single calls, with their bytes: what is replied, and where it leaves the reader.
-use mathlib.Core.List.{List, [], _∷_}
+use mathlib.Core.List.{List, [], _∷_, _++_}
 use mathlib.Core.Path.{_≡_}
 use Prim.Native.Nat.{ℕ}
+use lib.ListN.{take, replicate}
 use Rattle.std.specs.Vec.{Every}
 use Rattle.store.specs.Map.{empty}
 use Rattle.keeping.specs.declared.shares.Shares.{Shares}
@@ -285,6 +286,73 @@ table =
     -- the outcome of a reader that is not open, and before any run: refusals 1 and 13
     ∷ tells unopened (refuses 1 0 0 0)
     ∷ tells opened (refuses 13 0 0 0)
+    -- an FCI of 256 bytes, filler among them, and one of 257: L2 4
+    ∷ sees opened
+    (write amount1250 64 ∷ begin (0x6F ∷ replicate 255 0) 261 64 ∷ [])
+    (record { replies = takes ∷ hands askOptions ∷ []; phase = 20; count = 1; end = []; tvr = []; indication = []; floor = (0x00 ∷ 0x00 ∷ 0x00 ∷ 0x01 ∷ 0x00 ∷ 0x00 ∷ []) })
+    ∷ sees opened
+    (write amount1250 64 ∷ begin (0x6F ∷ replicate 256 0) 261 64 ∷ [])
+    (record { replies = takes ∷ ends ∷ []; phase = 40; count = 0; end = (4 ∷ 0 ∷ 4 ∷ 0 ∷ 0 ∷ 0 ∷ 0 ∷ 0 ∷ 0 ∷ 0 ∷ 0 ∷ []); tvr = []; indication = (0 ∷ 4 ∷ 0 ∷ 0 ∷ 0 ∷ 0 ∷ []); floor = (0x00 ∷ 0x00 ∷ 0x00 ∷ 0x01 ∷ 0x00 ∷ 0x00 ∷ []) })
+    -- an answer of 258 bytes, filler among them, and one of 259: L2 4
+    ∷ sees opened
+    (write amount1250 64 ∷ begin fci 261 64 ∷ answer (take 12 oneRecord ++ replicate 244 0 ++ 0x90 ∷ 0x00 ∷ []) 261 64 ∷ [])
+    (record { replies = takes ∷ hands askOptions ∷ hands readFirst ∷ []; phase = 22; count = 2; end = []; tvr = []; indication = []; floor = (0x00 ∷ 0x00 ∷ 0x00 ∷ 0x01 ∷ 0x00 ∷ 0x00 ∷ []) })
+    ∷ sees opened
+    (write amount1250 64 ∷ begin fci 261 64 ∷ answer (take 12 oneRecord ++ replicate 245 0 ++ 0x90 ∷ 0x00 ∷ []) 261 64 ∷ [])
+    (record { replies = takes ∷ hands askOptions ∷ ends ∷ []; phase = 40; count = 1; end = (4 ∷ 0 ∷ 4 ∷ 20 ∷ 0 ∷ 0 ∷ 0 ∷ 0 ∷ 0 ∷ 0 ∷ 0 ∷ []); tvr = []; indication = (0 ∷ 4 ∷ 0 ∷ 0 ∷ 0 ∷ 0 ∷ []); floor = (0x00 ∷ 0x00 ∷ 0x00 ∷ 0x01 ∷ 0x00 ∷ 0x00 ∷ []) })
+    -- an AFL of 64 records, and one of 65: L2 6
+    ∷ sees opened
+    (write amount1250 64 ∷ begin fci 261 64 ∷ answer (0x77 ∷ 0x0A ∷ 0x82 ∷ 0x02 ∷ 0x00 ∷ 0x00 ∷ 0x94 ∷ 0x04 ∷ 0x08 ∷ 0x01 ∷ 0x40 ∷ 0x00 ∷ 0x90 ∷ 0x00 ∷ []) 261 64 ∷ [])
+    (record { replies = takes ∷ hands askOptions ∷ hands readFirst ∷ []; phase = 22; count = 2; end = []; tvr = []; indication = []; floor = (0x00 ∷ 0x00 ∷ 0x00 ∷ 0x01 ∷ 0x00 ∷ 0x00 ∷ []) })
+    ∷ sees opened
+    (write amount1250 64 ∷ begin fci 261 64 ∷ answer (0x77 ∷ 0x0A ∷ 0x82 ∷ 0x02 ∷ 0x00 ∷ 0x00 ∷ 0x94 ∷ 0x04 ∷ 0x08 ∷ 0x01 ∷ 0x41 ∷ 0x00 ∷ 0x90 ∷ 0x00 ∷ []) 261 64 ∷ [])
+    (record { replies = takes ∷ hands askOptions ∷ ends ∷ []; phase = 40; count = 1; end = (4 ∷ 0 ∷ 6 ∷ 20 ∷ 0 ∷ 0 ∷ 0 ∷ 0 ∷ 0 ∷ 0 ∷ 0 ∷ []); tvr = []; indication = (0 ∷ 6 ∷ 0 ∷ 0 ∷ 0 ∷ 0 ∷ []); floor = (0x00 ∷ 0x00 ∷ 0x00 ∷ 0x01 ∷ 0x00 ∷ 0x00 ∷ []) })
+    -- answers that bring nothing: the first tag missing is told
+    ∷ sees opened
+    (write amount1250 64 ∷ begin fci 261 64 ∷ answer (0x77 ∷ 0x00 ∷ 0x90 ∷ 0x00 ∷ []) 261 64 ∷ [])
+    (record { replies = takes ∷ hands askOptions ∷ ends ∷ []; phase = 40; count = 1; end = (4 ∷ 0 ∷ 1 ∷ 20 ∷ 0 ∷ 0 ∷ 0x82 ∷ 0 ∷ 0 ∷ 0 ∷ 0 ∷ []); tvr = []; indication = (0 ∷ 1 ∷ 0 ∷ 0 ∷ 0 ∷ 0 ∷ []); floor = (0x00 ∷ 0x00 ∷ 0x00 ∷ 0x01 ∷ 0x00 ∷ 0x00 ∷ []) })
+    ∷ sees opened
+    (write amount1250 64 ∷ begin fci 261 64 ∷ answer oneRecord 261 64 ∷ answer (0x70 ∷ 0x00 ∷ 0x90 ∷ 0x00 ∷ []) 261 64 ∷ [])
+    (record { replies = takes ∷ hands askOptions ∷ hands readFirst ∷ ends ∷ []; phase = 40; count = 2; end = (4 ∷ 0 ∷ 1 ∷ 22 ∷ 1 ∷ 1 ∷ 0x5A ∷ 0 ∷ 0 ∷ 0 ∷ 0 ∷ []); tvr = []; indication = (0 ∷ 1 ∷ 0 ∷ 0 ∷ 0 ∷ 0 ∷ []); floor = (0x00 ∷ 0x00 ∷ 0x00 ∷ 0x01 ∷ 0x00 ∷ 0x00 ∷ []) })
+    ∷ sees opened
+    (write amount1250 64 ∷ begin fci 261 64 ∷ answer oneRecord 261 64 ∷ answer panRecord 261 64 ∷ answer (0x77 ∷ 0x00 ∷ 0x90 ∷ 0x00 ∷ []) 261 64 ∷ [])
+    (record { replies = takes ∷ hands askOptions ∷ hands readFirst ∷ hands askTc ∷ ends ∷ []; phase = 40; count = 3; end = (4 ∷ 0 ∷ 1 ∷ 26 ∷ 0 ∷ 0 ∷ 0x9F27 ∷ 0 ∷ 0 ∷ 0 ∷ 0 ∷ []); tvr = (0 ∷ 0 ∷ 0 ∷ 0 ∷ 0 ∷ []); indication = (0 ∷ 1 ∷ 0 ∷ 0 ∷ 0 ∷ 0 ∷ []); floor = (0x00 ∷ 0x00 ∷ 0x00 ∷ 0x01 ∷ 0x00 ∷ 0x00 ∷ []) })
+    ∷ sees opened
+    (write amount1250 64 ∷ begin fci 261 64 ∷ answer oneRecord 261 64 ∷ answer panRecord 261 64 ∷ answer (0x77 ∷ 0x04 ∷ 0x9F ∷ 0x27 ∷ 0x01 ∷ 0x40 ∷ 0x90 ∷ 0x00 ∷ []) 261 64 ∷ [])
+    (record { replies = takes ∷ hands askOptions ∷ hands readFirst ∷ hands askTc ∷ ends ∷ []; phase = 40; count = 3; end = (4 ∷ 0 ∷ 1 ∷ 26 ∷ 0 ∷ 0 ∷ 0x9F36 ∷ 0 ∷ 0 ∷ 0 ∷ 0 ∷ []); tvr = (0 ∷ 0 ∷ 0 ∷ 0 ∷ 0 ∷ []); indication = (0 ∷ 1 ∷ 0 ∷ 0 ∷ 0 ∷ 0 ∷ []); floor = (0x00 ∷ 0x00 ∷ 0x00 ∷ 0x01 ∷ 0x00 ∷ 0x00 ∷ []) })
+    -- the status comes before the text
+    ∷ sees opened
+    (write amount1250 64 ∷ begin fci 261 64 ∷ answer (0x9F ∷ 0x6A ∷ 0x82 ∷ []) 261 64 ∷ [])
+    (record { replies = takes ∷ hands askOptions ∷ ends ∷ []; phase = 40; count = 1; end = (4 ∷ 0 ∷ 3 ∷ 20 ∷ 0 ∷ 0 ∷ 0 ∷ 0 ∷ 0 ∷ 0 ∷ 0 ∷ []); tvr = []; indication = (0 ∷ 3 ∷ 0 ∷ 0x6A ∷ 0x82 ∷ 0 ∷ []); floor = (0x00 ∷ 0x00 ∷ 0x00 ∷ 0x01 ∷ 0x00 ∷ 0x00 ∷ []) })
+    -- a text fault comes before the outer object, and the outer object before an object fault
+    ∷ sees opened
+    (write amount1250 64 ∷ begin (0x50 ∷ 0x03 ∷ 0x41 ∷ 0x42 ∷ []) 261 64 ∷ [])
+    (record { replies = takes ∷ ends ∷ []; phase = 40; count = 0; end = (4 ∷ 0 ∷ 4 ∷ 0 ∷ 0 ∷ 0 ∷ 0 ∷ 5 ∷ 4 ∷ 0 ∷ 0 ∷ []); tvr = []; indication = (0 ∷ 4 ∷ 0 ∷ 0 ∷ 0 ∷ 0 ∷ []); floor = (0x00 ∷ 0x00 ∷ 0x00 ∷ 0x01 ∷ 0x00 ∷ 0x00 ∷ []) })
+    ∷ sees opened
+    (write amount1250 64 ∷ begin (0x77 ∷ 0x04 ∷ 0xDF ∷ 0x81 ∷ 0x23 ∷ 0x00 ∷ []) 261 64 ∷ [])
+    (record { replies = takes ∷ ends ∷ []; phase = 40; count = 0; end = (4 ∷ 0 ∷ 4 ∷ 0 ∷ 0 ∷ 0 ∷ 0 ∷ 0 ∷ 0 ∷ 0 ∷ 0 ∷ []); tvr = []; indication = (0 ∷ 4 ∷ 0 ∷ 0 ∷ 0 ∷ 0 ∷ []); floor = (0x00 ∷ 0x00 ∷ 0x00 ∷ 0x01 ∷ 0x00 ∷ 0x00 ∷ []) })
+    -- what begin needs, in its order
+    ∷ sees (openOver 0 unopened shares [] 64 .after)
+    (begin fci 261 64 ∷ write amount1250 64 ∷ begin fci 261 64 ∷ [])
+    (record { replies = refuses 9 0 0 0x9F02 ∷ takes ∷ refuses 9 0 0 0x9F35 ∷ []; phase = 0; count = 0; end = []; tvr = []; indication = []; floor = [] })
+    ∷ sees (openOver 0 unopened shares (0x9F ∷ 0x35 ∷ 0x01 ∷ 0x22 ∷ []) 64 .after)
+    (write amount1250 64 ∷ begin fci 261 64 ∷ [])
+    (record { replies = takes ∷ refuses 9 0 0 0xDF_8121 ∷ []; phase = 0; count = 0; end = []; tvr = []; indication = []; floor = [] })
+    ∷ sees (openOver 0 unopened shares (0x9F ∷ 0x35 ∷ 0x01 ∷ 0x22 ∷ 0xDF ∷ 0x81 ∷ 0x21 ∷ 0x05 ∷ 0x00 ∷ 0x00 ∷ 0x00 ∷ 0x00 ∷ 0x00 ∷ 0xDF ∷ 0x81 ∷ 0x22 ∷ 0x05 ∷ 0x00 ∷ 0x00 ∷ 0x00 ∷ 0x00 ∷ 0x00 ∷ []) 64 .after)
+    (write amount1250 64 ∷ begin fci 261 64 ∷ [])
+    (record { replies = takes ∷ refuses 9 0 0 0xDF_8123 ∷ []; phase = 0; count = 0; end = []; tvr = []; indication = []; floor = [] })
+    ∷ sees (openOver 0 unopened shares (0x9F ∷ 0x35 ∷ 0x01 ∷ 0x22 ∷ 0xDF ∷ 0x81 ∷ 0x21 ∷ 0x05 ∷ 0x00 ∷ 0x00 ∷ 0x00 ∷ 0x00 ∷ 0x00 ∷ 0xDF ∷ 0x81 ∷ 0x22 ∷ 0x05 ∷ 0x00 ∷ 0x00 ∷ 0x00 ∷ 0x00 ∷ 0x00 ∷ 0xDF ∷ 0x81 ∷ 0x23 ∷ 0x06 ∷ 0x00 ∷ 0x00 ∷ 0x00 ∷ 0x01 ∷ 0x00 ∷ 0x00 ∷ []) 64 .after)
+    (write amount1250 64 ∷ begin fci 261 64 ∷ [])
+    (record { replies = takes ∷ refuses 9 0 0 0xDF_856C ∷ []; phase = 0; count = 0; end = []; tvr = []; indication = []; floor = (0x00 ∷ 0x00 ∷ 0x00 ∷ 0x01 ∷ 0x00 ∷ 0x00 ∷ []) })
+    -- the code of a link fault is looked at before a command that waits
+    ∷ sees opened
+    (linkFault 0 ∷ linkFault 4 ∷ [])
+    (record { replies = refuses 11 0 0 0 ∷ refuses 11 0 0 0 ∷ []; phase = 0; count = 0; end = []; tvr = []; indication = []; floor = (0x00 ∷ 0x00 ∷ 0x00 ∷ 0x01 ∷ 0x00 ∷ 0x00 ∷ []) })
+    -- the checks of opening, in their order
+    ∷ replies (openOver 1 opened shares (0x9F ∷ []) 63) (refuses 1 0 0 0)
+    ∷ replies (openOver 1 (withLimits 1 1) shares (0x9F ∷ []) 63) (refuses 2 0 0 0)
+    ∷ replies (openOver 1 (withLimits 1 1) shares (0x9F ∷ []) 64) (refuses 3 0 0 0)
+    ∷ replies (openOver 0 (withLimits 1 1) shares (0x9F ∷ []) 64) (refuses 4 0 0 0)
     ∷ []
 
 -- Each row holds.
