@@ -1,13 +1,16 @@
 // Bytes in hexadecimal.
+ghost use mathlib.Core.Path.{_≡_};
 ghost use Prim.Native.Nat.{_<_};
 ghost use Rattle.std.specs.Options.{Cases};
+ghost use Rattle.console.specs.Hexadecimal.{digit-value};
 use keyed::tag::Tag;
 use std::alloc::AllocError;
 use std::alloc::Global;
 
 // The value of a digit, in either case.
 fn digit(b: u8) -> Option<u8>
-    ensures { λ r. ⌜ Cases r (Unit {0}) (λ d. d < 16) ⌝ }
+    ensures value { λ r. ⌜ r ≡ digit-value b ⌝ }
+    ensures small { λ r. ⌜ Cases r (Unit {0}) (λ d. d < 16) ⌝ }
 {
     match b {
         b'0'..=b'9' => Some(b - b'0'),
