@@ -1,8 +1,9 @@
 -- Hexadecimal in a line.
 use mathlib.Core.List.{List, [], _∷_, _++_}
-use mathlib.Core.Bool.{cond}
+use mathlib.Core.Bool.{cond, _&&_}
 use Prim.Native.Nat.{ℕ, _+_, _-_, _*_, _/_, _%_}
-use lib.Dec.{ltb}
+use lib.Dec.{eqb, ltb}
+use lib.ListN.{length, getD}
 use Rattle.std.specs.declared.option.Option.{Option}
 use Rattle.std.specs.declared.option.Option.the-variants.{Some, None}
 use Rattle.std.specs.Text.{within}
@@ -23,6 +24,10 @@ abbrev pub bytes-in : List ℕ → Option (List ℕ)
 bytes-in [] = Some []
 bytes-in (a ∷ []) = None
 bytes-in (a ∷ b ∷ cs) = byte-before (digit-value a) (digit-value b) (bytes-in cs)
+
+-- the bytes that a word writes: none for a dash
+abbrev pub word-bytes : List ℕ → Option (List ℕ)
+word-bytes w = cond (eqb (length w) 1 && eqb (getD w 0 0) 45) (Some []) (bytes-in w)
 
 -- the capital digit of a value below 16
 abbrev pub digit-of : ℕ → ℕ

@@ -1,8 +1,13 @@
 // Bytes in hexadecimal.
 ghost use mathlib.Core.Path.{_≡_};
+ghost use mathlib.Core.Bool.{_&&_};
 ghost use Prim.Native.Nat.{_<_};
-ghost use Rattle.std.specs.Options.{Cases};
-ghost use Rattle.console.specs.Hexadecimal.{digit-value};
+ghost use lib.Dec.{eqb};
+ghost use lib.ListN.{length, getD};
+ghost use Rattle.std.specs.Of.Vec.{vec-items};
+ghost use Rattle.std.specs.Options.{Cases, mapped};
+ghost use Rattle.std.specs.Vec.{made};
+ghost use Rattle.console.specs.Hexadecimal.{digit-value, bytes-in, word-bytes};
 use keyed::tag::Tag;
 use std::alloc::AllocError;
 use std::alloc::Global;
@@ -20,13 +25,11 @@ fn digit(b: u8) -> Option<u8>
     }
 }
 
-// The bytes that a word stands for: two digits to a byte, or `-` for no bytes.
-pub(crate) fn bytes_of(heap: Global, word: &str) -> Result<Option<Vec<u8>>, AllocError> {
+// The bytes that digits stand for, two digits to a byte; none if there is another byte, or a digit is left over.
+fn read_bytes(heap: Global, digits: &[u8]) -> Result<Option<Vec<u8>>, AllocError>
+    ensures { λ r. ⌜ made r (λ o. mapped vec-items o ≡ bytes-in (now (digits .entry))) ⌝ }
+{
     let mut bytes = Vec::new(heap);
-    if word == "-" {
-        return Ok(Some(bytes));
-    }
-    let digits = word.as_bytes();
     if digits.len() % 2 != 0 {
         return Ok(None);
     }
@@ -40,6 +43,24 @@ pub(crate) fn bytes_of(heap: Global, word: &str) -> Result<Option<Vec<u8>>, Allo
         bytes.push(high * 16 + low)?;
     }
     Ok(Some(bytes))
+}
+
+// Whether a word is a dash.
+fn is_dash(word: &[u8]) -> bool
+    ensures { λ r. ⌜ r ≡ (eqb (length (now (word .entry))) 1 && eqb (getD (now (word .entry)) 0 0) 45) ⌝ }
+{
+    word.len() == 1 && word[0] == b'-'
+}
+
+// The bytes that a word stands for: digits, or `-` for no bytes.
+pub(crate) fn bytes_of(heap: Global, word: &str) -> Result<Option<Vec<u8>>, AllocError>
+    ensures { λ r. ⌜ made r (λ o. mapped vec-items o ≡ word-bytes (now (word .entry))) ⌝ }
+{
+    let digits = word.as_bytes();
+    if is_dash(digits) {
+        return Ok(Some(Vec::new(heap)));
+    }
+    read_bytes(heap, digits)
 }
 
 // The tag that a word of one to three bytes stands for.
