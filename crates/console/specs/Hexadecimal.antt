@@ -29,6 +29,15 @@ bytes-in (a ∷ b ∷ cs) = byte-before (digit-value a) (digit-value b) (bytes-i
 abbrev pub word-bytes : List ℕ → Option (List ℕ)
 word-bytes w = cond (eqb (length w) 1 && eqb (getD w 0 0) 45) (Some []) (bytes-in w)
 
+-- the tag of one to three bytes, the first the highest
+abbrev pub tag-in : Option (List ℕ) → Option ℕ
+tag-in None = None
+tag-in (Some []) = None
+tag-in (Some (a ∷ [])) = Some a
+tag-in (Some (a ∷ b ∷ [])) = Some (a * 256 + b)
+tag-in (Some (a ∷ b ∷ c ∷ [])) = Some (a * 65536 + b * 256 + c)
+tag-in (Some (a ∷ b ∷ c ∷ d ∷ ds)) = None
+
 -- the capital digit of a value below 16
 abbrev pub digit-of : ℕ → ℕ
 digit-of d = cond (ltb d 10) (48 + d) (55 + d)

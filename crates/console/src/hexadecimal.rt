@@ -7,7 +7,7 @@ ghost use lib.ListN.{length, getD};
 ghost use Rattle.std.specs.Of.Vec.{vec-items};
 ghost use Rattle.std.specs.Options.{Cases, mapped};
 ghost use Rattle.std.specs.Vec.{made};
-ghost use Rattle.console.specs.Hexadecimal.{digit-value, bytes-in, word-bytes};
+ghost use Rattle.console.specs.Hexadecimal.{digit-value, bytes-in, word-bytes, tag-in};
 use keyed::tag::Tag;
 use std::alloc::AllocError;
 use std::alloc::Global;
@@ -64,7 +64,9 @@ pub(crate) fn bytes_of(heap: Global, word: &str) -> Result<Option<Vec<u8>>, Allo
 }
 
 // The tag that a word of one to three bytes stands for.
-pub(crate) fn tag_of(heap: Global, word: &str) -> Result<Option<Tag>, AllocError> {
+pub(crate) fn tag_of(heap: Global, word: &str) -> Result<Option<Tag>, AllocError>
+    ensures { λ r. ⌜ made r (λ o. mapped (λ (t : Tag). t .value) o ≡ tag-in (word-bytes (now (word .entry)))) ⌝ }
+{
     let Some(bytes) = bytes_of(heap, word)? else {
         return Ok(None);
     };
