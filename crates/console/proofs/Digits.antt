@@ -2,7 +2,7 @@
 use mathlib.Core.Path.{_≡_, sym, _∙_, ap}
 use mathlib.Core.List.{List}
 use mathlib.Core.Bool.{true, false}
-use Prim.Native.Nat.{ℕ, suc, _+_, _-_, _*_, _^_, _<_, _≤_}
+use Prim.Native.Nat.{ℕ, _+_, _-_, _*_, _^_, _<_, _≤_}
 use native.Mathlib.Nat.{pow-suc}
 use native.Mathlib.Numerals.{add-one}
 use native.Mathlib.Omega.{arith}
@@ -21,7 +21,7 @@ digit-stops n ds i m l d e =
     ∙ sym (at-drop-more (read-on n) ds i 0 l) ∙ e
 
 pub digit-more : (n : ℕ) (ds : List ℕ) (i : ℕ) (m : Option ℕ) → i < length ds → true ≡ asciiDigit (getD ds i 0) → read-on n (drop i ds) ≡ m
-  → read-on (n * 10 + (getD ds i 0 - 48)) (drop (i + 1) ds) ≡ m
+    → read-on (n * 10 + (getD ds i 0 - 48)) (drop (i + 1) ds) ≡ m
 digit-more n ds i m l d e =
     sym (cond-true (asciiDigit (getD ds i 0)) (read-on (n * 10 + (getD ds i 0 - 48)) (drop (i + 1) ds)) None (sym d))
     ∙ sym (at-drop-more (read-on n) ds i 0 l) ∙ e

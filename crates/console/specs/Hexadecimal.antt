@@ -1,5 +1,5 @@
 -- Hexadecimal in a line.
-use mathlib.Core.List.{List, [], _∷_, _++_}
+use mathlib.Core.List.{List, [], _∷_}
 use mathlib.Core.Bool.{cond, _&&_}
 use Prim.Native.Nat.{ℕ, _+_, _-_, _*_, _/_, _%_}
 use lib.Dec.{eqb, ltb}
@@ -46,3 +46,8 @@ digit-of d = cond (ltb d 10) (48 + d) (55 + d)
 abbrev pub digits-of : List ℕ → List ℕ
 digits-of [] = []
 digits-of (b ∷ bs) = digit-of (b / 16) ∷ digit-of (b % 16) ∷ digits-of bs
+
+-- the word that stands for bytes: a dash for none
+abbrev pub word-with : List ℕ → List ℕ
+word-with [] = 45 ∷ []
+word-with (b ∷ bs) = digits-of (b ∷ bs)

@@ -1,13 +1,15 @@
 // Bytes in hexadecimal.
 ghost use mathlib.Core.Path.{_≡_};
 ghost use mathlib.Core.Bool.{_&&_};
-ghost use Prim.Native.Nat.{_<_};
+ghost use mathlib.Core.List.{[], _∷_, _++_};
+ghost use Prim.Native.Nat.{_<_, _/_, _%_};
 ghost use lib.Dec.{eqb};
 ghost use lib.ListN.{length, getD};
+ghost use Rattle.std.specs.Of.String.{string-bytes};
 ghost use Rattle.std.specs.Of.Vec.{vec-items};
 ghost use Rattle.std.specs.Options.{Cases, mapped};
 ghost use Rattle.std.specs.Vec.{made};
-ghost use Rattle.console.specs.Hexadecimal.{digit-value, bytes-in, word-bytes, tag-in};
+ghost use Rattle.console.specs.Hexadecimal.{digit-value, bytes-in, word-bytes, tag-in, digit-of, digits-of, word-with};
 use keyed::tag::Tag;
 use std::alloc::AllocError;
 use std::alloc::Global;
@@ -78,15 +80,41 @@ pub(crate) fn tag_of(heap: Global, word: &str) -> Result<Option<Tag>, AllocError
     }
 }
 
-// Bytes as a word: capital digits, or `-` for no bytes.
-pub(crate) fn word_of(heap: Global, bytes: &[u8]) -> Result<String, AllocError> {
-    let mut word = String::new(heap);
-    if bytes.is_empty() {
-        word.push_str("-")?;
-    }
+// The capital digit of a value below 16.
+fn digit_of(d: u8) -> u8
+    requires { ⌜ d < 16 ⌝ }
+    ensures value { λ r. ⌜ r ≡ digit-of d ⌝ }
+    ensures ascii { λ r. ⌜ r < 128 ⌝ }
+{
+    if d < 10 { b'0' + d } else { b'A' + (d - 10) }
+}
+
+// Writes the two digits of a byte behind a text.
+fn push_byte(text: &mut String, b: u8) -> Result<(), AllocError>
+    ensures { λ r. ⌜ made r (λ _. string-bytes (now (text .exit)) ≡ string-bytes (now (text .entry)) ++ (digit-of (b / 16) ∷ digit-of (b % 16) ∷ [])) ⌝ }
+{
+    text.push(char::from(digit_of(b / 16)))?;
+    text.push(char::from(digit_of(b % 16)))?;
+    Ok(())
+}
+
+// The digits of bytes, two to a byte.
+fn digits_of(heap: Global, bytes: &[u8]) -> Result<String, AllocError>
+    ensures { λ r. ⌜ made r (λ s. string-bytes s ≡ digits-of (now (bytes .entry))) ⌝ }
+{
+    let mut text = String::new(heap);
     for b in bytes {
-        let two = format!(heap, "{b:02X}")?;
-        word.push_str(two.as_str())?;
+        push_byte(&mut text, *b)?;
     }
-    Ok(word)
+    Ok(text)
+}
+
+// Bytes as a word: capital digits, or `-` for no bytes.
+pub(crate) fn word_of(heap: Global, bytes: &[u8]) -> Result<String, AllocError>
+    ensures { λ r. ⌜ made r (λ s. string-bytes s ≡ word-with (now (bytes .entry))) ⌝ }
+{
+    if bytes.is_empty() {
+        return String::from_str(heap, "-");
+    }
+    digits_of(heap, bytes)
 }

@@ -9,11 +9,12 @@ returns-then-not-is-ascii-digit c =
     (c .if-not-is-ascii-digit .ensures tt .value) (c .loop-d .inv .0)
 
 pub loop-d-again : need.loop-d-again
-loop-d-again c =
-    (digit-more (c .loop-d .n) (c .args .digits .now) (c .loop-d .d-index) (read-on 0 (c .args .digits .now)) (c .loop-d-test .taken)
+loop-d-again c = (
+  digit-more (c .loop-d .n) (c .args .digits .now) (c .loop-d .d-index) (read-on 0 (c .args .digits .now)) (c .loop-d-test .taken)
       (c .if-not-is-ascii-digit .ensures tt .value) (c .loop-d .inv .0),
-      digit-grows (c .loop-d .n) (c .loop-d .d-index) (getD (c .args .digits .now) (c .loop-d .d-index) 0) (c .if-not-is-ascii-digit .ensures tt .value)
-      (c .loop-d .inv .1))
+  digit-grows (c .loop-d .n) (c .loop-d .d-index) (getD (c .args .digits .now) (c .loop-d .d-index) 0) (c .if-not-is-ascii-digit .ensures tt .value)
+      (c .loop-d .inv .1),
+)
 
 pub returns : need.returns
 returns c =
