@@ -43,7 +43,7 @@ pub fn read_tag(text: &[u8]) -> Result<(u32, &[u8]), FaultKind>
 }
 
 // The length at the front of some bytes, and what follows it; none if it is cut short or of another form.
-pub fn read_length(text: &[u8]) -> Option<(u8, &[u8])>
+fn read_length(text: &[u8]) -> Option<(u8, &[u8])>
     ensures { λ r. ⌜ lengthTold r ≡ lengthAt (now (text .entry)) ⌝ }
 {
     match text {

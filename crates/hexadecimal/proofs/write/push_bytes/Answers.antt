@@ -6,6 +6,8 @@ use lib.ListN.{length, drop, getD}
 use Rattle.std.specs.Of.Vec.{vec-items}
 use Rattle.std.proofs.shelf.Lists.{at-drop-more, at-drop-all}
 use Rattle.hexadecimal.specs.Digits.{digit, shown}
+use native.Mathlib.Omega.{arith}
+use Rattle.hexadecimal.proofs.Back.{back}
 use Rattle.hexadecimal.proofs.write.push_bytes.Needs as need
 
 -- one byte more is written
@@ -23,6 +25,9 @@ loop-b-again c =
     ∙ c .loop-b .inv
 
 pub returns : need.returns
-returns c =
-    sym (ap (λ zs. vec-items (c .loop-b .out) ++ zs) (at-drop-all shown (c .args .bytes .now) (c .loop-b .b-index) (c .loop-b-test .left)) ∙ append-nil (vec-items (c .loop-b .out)))
-    ∙ c .loop-b .inv
+returns c = record {
+  items =
+      sym (ap (λ zs. vec-items (c .loop-b .out) ++ zs) (at-drop-all shown (c .args .bytes .now) (c .loop-b .b-index) (c .loop-b-test .left)) ∙ append-nil (vec-items (c .loop-b .out)))
+      ∙ c .loop-b .inv;
+  back = back (c .args .bytes .now) (λ i. omega (arith, c .typed .bytes i));
+}
