@@ -1,0 +1,4 @@
+pub mod Directory
+pub mod Found
+pub mod Kept
+pub mod Meaning

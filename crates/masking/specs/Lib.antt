@@ -1,0 +1,2 @@
+pub mod Mask
+pub mod Masks

@@ -1,0 +1,4 @@
+pub mod Strip
+pub mod Spot
+pub mod Kept
+pub mod Meaning
