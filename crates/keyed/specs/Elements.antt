@@ -33,8 +33,3 @@ abbrev pub stored : {X : Type 0} → Addition → List X → ℕ → X → List 
 stored Added mem n x = set mem n x
 stored AlreadyThere mem n x = mem
 stored Full mem n x = mem
-
--- the elements after adding each of a list in turn
-abbrev pub all-added : {X : Type 0} → (X → X → Bool) → ℕ → List X → List X → List X
-all-added same room held [] = held
-all-added same room held (x ∷ xs) = all-added same room (grown (answer same room held x) held x) xs

@@ -1,5 +1,4 @@
 // A list over the caller's memory in which no two elements have equal keys, and elements that have one.
-pub mod all;
 pub mod key;
 pub mod list;
 pub mod record;

@@ -40,6 +40,6 @@ pub impl Keyed for Tag as TagKeyed {
     ghost same = { eqb };
 
     fn same_key(&self, other: &Tag) -> bool {
-        self.value == other.value
+        self.number() == other.number()
     }
 }

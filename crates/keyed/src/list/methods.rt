@@ -5,7 +5,6 @@ ghost use mathlib.Core.List.{[], _∷_, _++_};
 ghost use Prim.Native.Nat.{_+_, _<_, _≤_};
 ghost use lib.ListN.{length, take, set};
 ghost use denote.Ref.{name};
-ghost use Rattle.std.specs.shelf.Maps.{nth};
 ghost use Rattle.keyed.specs.Keys.{by, holds, Distinct};
 ghost use Rattle.keyed.specs.Elements.{elements, memory, answer, grown, stored};
 use super::Addition;
@@ -24,6 +23,14 @@ fn any_same<T: Keyed>(items: &[T], x: &T) -> bool
     false
 }
 
+// The same, and that items with the key of `x` are looked for alike.
+fn look_for<T: Keyed>(items: &[T], x: &T) -> bool
+    ensures value { λ r. ⌜ r ≡ holds (by key same) (now (items .entry)) (now (x .entry)) ⌝ }
+    ensures alike { λ r. ⌜ ((y : T) → same (key (now (x .entry))) (key y) ≡ true → r ≡ holds (by key same) (now (items .entry)) y) ⌝ }
+{
+    any_same(items, x)
+}
+
 // Writes `x` behind the first `n` items.
 fn put<T: Keyed + Copy>(items: &mut [T], n: usize, x: T)
     requires { ⌜ n < length (now items) ⌝ }
@@ -34,6 +41,23 @@ fn put<T: Keyed + Copy>(items: &mut [T], n: usize, x: T)
     ensures there { λ _. ⌜ holds (by key same) (take (n + 1) (now (items .exit))) x ≡ true ⌝ }
 {
     items[n] = x;
+}
+
+// How many of the items the first `n` are, where there may be fewer.
+fn count_of<T>(items: &[T], n: usize) -> usize
+    ensures value { λ r. ⌜ r ≡ length (take n (now (items .entry))) ⌝ }
+    ensures within { λ r. ⌜ r ≤ length (now (items .entry)) ⌝ }
+    ensures front { λ r. ⌜ take r (now (items .entry)) ≡ take n (now (items .entry)) ⌝ }
+{
+    n.min(items.len())
+}
+
+// The first `n` items, or all of them where there are fewer.
+fn first_of<T>(items: &[T], n: usize) -> &[T]
+    ensures { λ r. ⌜ now r ≡ take n (now (items .entry)) ⌝ }
+{
+    let n = n.min(items.len());
+    &items[0..n]
 }
 
 impl<'a, T> KeyedList<'a, T> {
@@ -52,15 +76,14 @@ impl<'a, T> KeyedList<'a, T> {
         ensures within { λ r. ⌜ r ≤ length (memory (now (self .entry))) ⌝ }
         ensures front { λ r. ⌜ take r (memory (now (self .entry))) ≡ elements (now (self .entry)) ⌝ }
     {
-        self.len.min(self.items.len())
+        count_of(&*self.items, self.len)
     }
 
+    // The elements, in the order in which they were added.
     pub fn as_slice(&self) -> &[T]
         ensures { λ r. ⌜ now r ≡ elements (now (self .entry)) ⌝ }
     {
-        let items = &*self.items;
-        let n = self.len.min(items.len());
-        &items[0..n]
+        first_of(&*self.items, self.len)
     }
 }
 
@@ -70,19 +93,11 @@ impl<'a, T: Keyed> KeyedList<'a, T> {
         ensures value { λ r. ⌜ r ≡ holds (by key same) (elements (now (self .entry))) (now (x .entry)) ⌝ }
         ensures alike { λ r. ⌜ ((y : T) → same (key (now (x .entry))) (key y) ≡ true → r ≡ holds (by key same) (elements (now (self .entry))) y) ⌝ }
     {
-        any_same(self.as_slice(), x)
+        look_for(self.as_slice(), x)
     }
 }
 
 impl<'a, T: Keyed + Copy> KeyedList<'a, T> {
-    // The element at `i`.
-    pub fn get(&self, i: usize) -> Option<T>
-        ensures { λ r. ⌜ r ≡ nth (elements (now (self .entry))) i ⌝ }
-    {
-        let s = self.as_slice();
-        if i < s.len() { Some(s[i]) } else { None }
-    }
-
     // Puts `x` at the end, unless an element of equal key is there or the list is full.
     pub fn add(&mut self, x: T) -> Addition
         ensures answer { λ r. ⌜ r ≡ answer (by key same) (length (memory (now (self .entry)))) (elements (now (self .entry))) x ⌝ }

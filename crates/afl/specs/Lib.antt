@@ -1,0 +1,3 @@
+pub mod Afl
+pub mod Laws
+pub mod Steps

@@ -1,0 +1,2 @@
+// The records that an application file locator (AFL) names.
+pub mod locator;

@@ -1,0 +1,4 @@
+pub mod Amounts
+pub mod Cryptograms
+pub mod Decision
+pub mod Laws

@@ -1,0 +1,4 @@
+pub mod Order
+pub mod Naming
+pub mod Search
+pub mod Halves

@@ -1,0 +1,4 @@
+pub mod Dictionary
+pub mod Checks
+pub mod Names
+pub mod Places

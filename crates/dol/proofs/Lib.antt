@@ -1,0 +1,6 @@
+pub mod Parts
+pub mod Fronts
+pub mod Entries
+pub mod Filled
+pub mod Fills
+pub mod Lawful

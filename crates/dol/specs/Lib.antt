@@ -1,0 +1,4 @@
+pub mod Fit
+pub mod Dol
+pub mod Laws
+pub mod Steps

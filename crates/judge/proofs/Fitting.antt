@@ -1,0 +1,89 @@
+-- What holds of an accepted text. Assumes nothing.
+use mathlib.Core.Path.{_≡_, refl, sym, ap, subst, _∙_}
+use mathlib.Core.Bool.{Bool, true, false, cond, not, _&&_, _||_}
+use mathlib.Core.List.{List, [], _∷_, _++_}
+use Prim.Native.Nat.{ℕ}
+use native.Mathlib.Omega.{arith}
+use Rattle.std.proofs.shelf.Tests.{true≢false, not-false, cases-bool, cond-true, cond-false}
+use Rattle.std.specs.declared.option.Option.{Option}
+use Rattle.std.specs.declared.option.Option.the-variants.{Some, None}
+use Rattle.std.specs.declared.result.Result.{Result}
+use Rattle.std.specs.declared.result.Result.the-variants.{Ok, Err}
+use Rattle.dictionary.specs.declared.entry.Entry.{Entry}
+use Rattle.dictionary.specs.Dictionary.{entryOf}
+use Rattle.tlv.specs.declared.place.Place.{Place}
+use Rattle.tlv.specs.Series.{Reading, wrong, found, meaning}
+use Rattle.store.specs.Map.{Map}
+use Rattle.judge.specs.declared.fault.ObjectFaultKind.{ObjectFaultKind}
+use Rattle.judge.specs.declared.fault.ObjectFaultKind.the-variants.{UnknownTag, OtherWriter, BadLength, BadDigits, TagTwice, HeldWithValue, AfterBegin}
+use Rattle.judge.specs.declared.fault.ObjectFault.{ObjectFault}
+use Rattle.judge.specs.declared.kind.TextKind.{TextKind}
+use Rattle.judge.specs.declared.kind.TextKind.the-variants.{Configuration, TerminalWrite, CardAnswer}
+use Rattle.judge.specs.Kinds.{own}
+use Rattle.judge.specs.Objects.{Object, plain, objectsOf}
+use Rattle.judge.specs.Rules.{breaksBy, breaks, lowest}
+use Rattle.judge.specs.Judge.{onFault, firstFault, judgedBy, judged}
+use Rattle.judge.specs.Walk.{builtIn, standsBefore, unknownAt, walked}
+use Rattle.judge.specs.Accepted.{FitsEntry, FitsBy, AllFit}
+use Rattle.judge.proofs.Judging.{walk-judges}
+use Rattle.judge.proofs.Lowest.{Lowest, lowest-is}
+
+err-ok : (f : ObjectFault) → _≡_ {A = Result (Unit {0}) ObjectFault} (Err f) (Ok tt) → ⊥
+err-ok f h = let z : _≡_ {A = ℕ} 0 1 = cc in omega arith
+
+-- a constructed object is a fault
+built-faulty : (c : Option Place) (at : ℕ) → standsBefore c at ≡ true → unknownAt c ≡ Ok tt → ⊥
+built-faulty None at b h = true≢false (sym b)
+built-faulty (Some p) at b h = err-ok _ h
+
+and-true : (b : Bool) → (b && true) ≡ false → b ≡ false
+and-true true h = h
+and-true false h = refl
+
+module _ (k : TextKind) (m : Map) (text : List ℕ) where
+  -- an object that breaks no rule fits
+  fits : (passed : List Place) (p : Place) (x : Option Entry) → ((rule : ObjectFaultKind) → breaksBy k m text passed (plain p) x rule ≡ false) → FitsBy k m text passed p x
+  fits passed p None clean = and-true (own k) (clean UnknownTag)
+  fits passed p (Some e) clean =
+      record {
+        writer = not-false _ (clean OtherWriter);
+        sized = not-false _ (clean BadLength);
+        digits = not-false _ (clean BadDigits);
+        once = clean TagTwice;
+        free = clean HeldWithValue;
+        early = clean AfterBegin;
+      }
+
+  -- of a text whose walk finds no fault, each object fits
+  walked-fits : (c : Option Place) (passed ps : List Place) → walked k m text c passed ps ≡ Ok tt → AllFit k m text passed ps
+  walked-fits c passed [] h = tt
+  walked-fits c passed (p ∷ ps) h = by (standsBefore c (p .at)) refl h (λ g. walked-fits c (passed ++ p ∷ []) ps g)
+    where
+      onward : (w : Option ObjectFaultKind) → Lowest (breaks k m text passed (plain p)) w → onFault w p (walked k m text c (passed ++ p ∷ []) ps) ≡ Ok tt → (walked k m text c (passed ++ p ∷ []) ps ≡ Ok tt → AllFit k m text (passed ++ p ∷ []) ps) → AllFit k m text passed (p ∷ ps)
+      onward None v g next = (fits passed p (entryOf (p .tag)) v, next g)
+      onward (Some r) v g next = absurd (err-ok _ g)
+
+      by : (b : Bool) → standsBefore c (p .at) ≡ b → cond b (unknownAt c) (onFault (lowest (breaks k m text passed (plain p))) p (walked k m text c (passed ++ p ∷ []) ps)) ≡ Ok tt → (walked k m text c (passed ++ p ∷ []) ps ≡ Ok tt → AllFit k m text (passed ++ p ∷ []) ps) → AllFit k m text passed (p ∷ ps)
+      by true e g next = absurd (built-faulty c (p .at) e g)
+      by false e g next = onward (lowest (breaks k m text passed (plain p))) (lowest-is (breaks k m text passed (plain p))) g next
+
+-- of an accepted text, each object fits
+pub accepted-fits : (k : TextKind) (m : Map) (text : List ℕ) (ps : List Place) → meaning text ≡ found ps → judged k m text ≡ Ok tt → AllFit k m text [] ps
+accepted-fits k m text ps h a = walked-fits k m text (builtIn k text) [] ps (walk-judges k m text ps h ∙ a)
+
+-- what is held is not asked for an own text
+own-fault : (k : TextKind) → own k ≡ true → (m n : Map) (text : List ℕ) (passed : List Place) (os : List Object) → firstFault k m text passed os ≡ firstFault k n text passed os
+own-fault k h m n text passed [] = refl
+own-fault Configuration h m n text passed (o ∷ os) =
+    ap (onFault (lowest (breaks Configuration m text passed o)) (o .place)) (own-fault Configuration h m n text (passed ++ o .place ∷ []) os)
+own-fault (TerminalWrite b) h m n text passed (o ∷ os) =
+    ap (onFault (lowest (breaks (TerminalWrite b) m text passed o)) (o .place)) (own-fault (TerminalWrite b) h m n text (passed ++ o .place ∷ []) os)
+own-fault CardAnswer h m n text passed (o ∷ os) = absurd (true≢false (sym h))
+
+pub own-judged : (k : TextKind) → own k ≡ true → (m n : Map) (text : List ℕ) → judged k m text ≡ judged k n text
+unfolding judged
+own-judged k h m n text = by (meaning text)
+  where
+    by : (x : Reading) → judgedBy k m text x ≡ judgedBy k n text x
+    by (wrong kind at) = refl
+    by (found ps) = own-fault k h m n text [] (objectsOf k text ps)

@@ -1,0 +1,12 @@
+pub mod Faults
+pub mod Writers
+pub mod Kinds
+pub mod Objects
+pub mod Rules
+pub mod Judge
+pub mod Verdict
+pub mod Walk
+pub mod Accepted
+pub mod Reads
+pub mod Alone
+pub mod Worked

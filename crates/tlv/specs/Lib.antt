@@ -1,0 +1,10 @@
+pub mod Objects
+pub mod Series
+pub mod Told
+pub mod Values
+pub mod Rising
+pub mod Grammar
+pub mod Faults
+pub mod Laws
+pub mod Written
+pub mod Worked
