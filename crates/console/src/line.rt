@@ -1,7 +1,7 @@
 // What a line asks for.
-use crate::hexadecimal::bytes_of;
-use crate::hexadecimal::tag_of;
 use crate::numbers::number;
+use crate::words::bytes_of;
+use crate::words::tag_of;
 use keyed::tag::Tag;
 use std::alloc::AllocError;
 use std::alloc::Global;

@@ -1,9 +1,9 @@
 // The calls of one store, whatever its make.
-use crate::hexadecimal::word_of;
 use crate::input::Input;
 use crate::line::Line;
 use crate::line::Make;
 use crate::line::understood;
+use crate::words::word_of;
 use keyed::tag::Tag;
 use std::alloc::Global;
 use std::io;
