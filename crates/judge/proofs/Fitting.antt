@@ -1,10 +1,10 @@
--- What holds of an accepted text. Assumes nothing.
-use mathlib.Core.Path.{_≡_, refl, sym, ap, subst, _∙_}
-use mathlib.Core.Bool.{Bool, true, false, cond, not, _&&_, _||_}
+-- What holds of an accepted text.
+use mathlib.Core.Path.{_≡_, refl, sym, ap, _∙_}
+use mathlib.Core.Bool.{Bool, true, false, cond, _&&_}
 use mathlib.Core.List.{List, [], _∷_, _++_}
 use Prim.Native.Nat.{ℕ}
 use native.Mathlib.Omega.{arith}
-use Rattle.std.proofs.shelf.Tests.{true≢false, not-false, cases-bool, cond-true, cond-false}
+use Rattle.std.proofs.shelf.Tests.{true≢false, not-false}
 use Rattle.std.specs.declared.option.Option.{Option}
 use Rattle.std.specs.declared.option.Option.the-variants.{Some, None}
 use Rattle.std.specs.declared.result.Result.{Result}
@@ -24,7 +24,7 @@ use Rattle.judge.specs.Objects.{Object, plain, objectsOf}
 use Rattle.judge.specs.Rules.{breaksBy, breaks, lowest}
 use Rattle.judge.specs.Judge.{onFault, firstFault, judgedBy, judged}
 use Rattle.judge.specs.Walk.{builtIn, standsBefore, unknownAt, walked}
-use Rattle.judge.specs.Accepted.{FitsEntry, FitsBy, AllFit}
+use Rattle.judge.specs.Accepted.{FitsBy, AllFit}
 use Rattle.judge.proofs.Judging.{walk-judges}
 use Rattle.judge.proofs.Lowest.{Lowest, lowest-is}
 

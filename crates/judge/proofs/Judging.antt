@@ -1,25 +1,20 @@
--- The walk over the places judges the text. Assumes nothing.
+-- The walk over the places judges the text.
 use mathlib.Core.Path.{_≡_, refl, sym, ap, subst, _∙_}
 use mathlib.Core.Bool.{Bool, true, false, cond}
 use mathlib.Core.List.{List, [], _∷_, _++_}
-use Prim.Native.Nat.{ℕ, _+_, _≤_, _<_}
+use Prim.Native.Nat.{ℕ, _+_, _<_}
 use native.Mathlib.Nat.{zero-add}
 use native.Mathlib.Omega.{arith}
 use lib.Dec.{ltb}
 use lib.ListN.{length}
 use Rattle.std.proofs.shelf.Tests.{true≢false, lt-ltb, le-ltb, cond-true, cond-false}
-use Rattle.std.specs.declared.option.Option.{Option}
 use Rattle.std.specs.declared.option.Option.the-variants.{Some, None}
-use Rattle.std.specs.declared.result.Result.{Result}
-use Rattle.std.specs.declared.result.Result.the-variants.{Ok, Err}
 use Rattle.tlv.specs.declared.place.Place.{Place}
 use Rattle.tlv.specs.Series.{found, meaning}
-use Rattle.tlv.specs.Grammar.{Item, placesOf, Text}
+use Rattle.tlv.specs.Grammar.{placesOf}
 use Rattle.tlv.proofs.Exactness.{exact}
 use Rattle.store.specs.Map.{Map}
-use Rattle.judge.specs.declared.fault.ObjectFaultKind.{ObjectFaultKind}
 use Rattle.judge.specs.declared.fault.ObjectFaultKind.the-variants.{UnknownTag}
-use Rattle.judge.specs.declared.fault.ObjectFault.{ObjectFault}
 use Rattle.judge.specs.declared.kind.TextKind.{TextKind}
 use Rattle.judge.specs.declared.kind.TextKind.the-variants.{Configuration, TerminalWrite, CardAnswer}
 use Rattle.judge.specs.Kinds.{own}

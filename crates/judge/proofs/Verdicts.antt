@@ -1,11 +1,11 @@
--- The judgement by the rules alone. Assumes nothing.
+-- The judgement by the rules alone.
 use mathlib.Core.Path.{_≡_, refl, sym, ap, subst, _∙_}
-use mathlib.Core.Bool.{Bool, true, false, cond}
+use mathlib.Core.Bool.{Bool, true, false}
 use mathlib.Core.List.{List, [], _∷_, _++_, append-nil, append-assoc}
 use Prim.Native.Nat.{ℕ, zero, suc, _+_, _≤_, _<_}
 use native.Mathlib.Nat.{le-of-suc-le-suc, not-suc-le-zero}
 use native.Mathlib.Omega.{arith}
-use lib.ListN.{length, getD, take}
+use lib.ListN.{length, take}
 use Rattle.std.proofs.shelf.Tests.{both-ways}
 use Rattle.std.specs.declared.option.Option.{Option}
 use Rattle.std.specs.declared.option.Option.the-variants.{Some, None}
@@ -23,9 +23,9 @@ use Rattle.judge.specs.Faults.{faultNumber}
 use Rattle.judge.specs.Objects.{Object, plains, places, objectsOf}
 use Rattle.judge.specs.Rules.{breaks, lowest}
 use Rattle.judge.specs.Judge.{onFault, firstFault, judgedBy, judged}
-use Rattle.judge.specs.Verdict.{objectAt, breaksAt, AllKeep, FirstBreaks, ObjectsVerdict, TextVerdict, JudgedByRules}
+use Rattle.judge.specs.Verdict.{objectAt, AllKeep, ObjectsVerdict, TextVerdict, JudgedByRules}
 use Rattle.judge.proofs.Climbing.{Climbs}
-use Rattle.judge.proofs.Lowest.{KeptBelow, Lowest, lowest-is}
+use Rattle.judge.proofs.Lowest.{Lowest, lowest-is}
 use Rattle.judge.proofs.Judging.{Read, reading}
 
 -- objects that rise from lo on stand at lo or behind it

@@ -1,7 +1,5 @@
-use mathlib.Core.Path.{_≡_, refl, sym, ap, subst, _∙_}
 use lib.ListN.{length}
 use Rattle.std.proofs.shelf.Results.{err-from-errBy}
-use Rattle.judge.specs.Reads.{ReadFor}
 use Rattle.judge.proofs.Reading.{read-well, read-refused}
 use Rattle.judge.proofs.Verdicts.{judged-by-rules}
 use Rattle.judge.proofs.Fitting.{own-judged}
