@@ -1,5 +1,5 @@
 -- What holds of an accepted text.
-use mathlib.Core.Path.{_≡_, refl, sym, ap, _∙_}
+use mathlib.Core.Path.{_≡_, refl, sym, _∙_}
 use mathlib.Core.Bool.{Bool, true, false, cond, _&&_}
 use mathlib.Core.List.{List, [], _∷_, _++_}
 use Prim.Native.Nat.{ℕ}
@@ -12,17 +12,16 @@ use Rattle.std.specs.declared.result.Result.the-variants.{Ok, Err}
 use Rattle.dictionary.specs.declared.entry.Entry.{Entry}
 use Rattle.dictionary.specs.Dictionary.{entryOf}
 use Rattle.tlv.specs.declared.place.Place.{Place}
-use Rattle.tlv.specs.Series.{Reading, wrong, found, meaning}
+use Rattle.tlv.specs.Series.{found, meaning}
 use Rattle.store.specs.Map.{Map}
 use Rattle.judge.specs.declared.fault.ObjectFaultKind.{ObjectFaultKind}
 use Rattle.judge.specs.declared.fault.ObjectFaultKind.the-variants.{UnknownTag, OtherWriter, BadLength, BadDigits, TagTwice, HeldWithValue, AfterBegin}
 use Rattle.judge.specs.declared.fault.ObjectFault.{ObjectFault}
 use Rattle.judge.specs.declared.kind.TextKind.{TextKind}
-use Rattle.judge.specs.declared.kind.TextKind.the-variants.{Configuration, TerminalWrite, CardAnswer}
 use Rattle.judge.specs.Kinds.{own}
-use Rattle.judge.specs.Objects.{Object, plain, objectsOf}
+use Rattle.judge.specs.Objects.{plain}
 use Rattle.judge.specs.Rules.{breaksBy, breaks, lowest}
-use Rattle.judge.specs.Judge.{onFault, firstFault, judgedBy, judged}
+use Rattle.judge.specs.Judge.{onFault, judged}
 use Rattle.judge.specs.Walk.{builtIn, standsBefore, unknownAt, walked}
 use Rattle.judge.specs.Accepted.{FitsBy, AllFit}
 use Rattle.judge.proofs.Judging.{walk-judges}
@@ -70,20 +69,3 @@ module _ (k : TextKind) (m : Map) (text : List ℕ) where
 -- of an accepted text, each object fits
 pub accepted-fits : (k : TextKind) (m : Map) (text : List ℕ) (ps : List Place) → meaning text ≡ found ps → judged k m text ≡ Ok tt → AllFit k m text [] ps
 accepted-fits k m text ps h a = walked-fits k m text (builtIn k text) [] ps (walk-judges k m text ps h ∙ a)
-
--- what is held is not asked for an own text
-own-fault : (k : TextKind) → own k ≡ true → (m n : Map) (text : List ℕ) (passed : List Place) (os : List Object) → firstFault k m text passed os ≡ firstFault k n text passed os
-own-fault k h m n text passed [] = refl
-own-fault Configuration h m n text passed (o ∷ os) =
-    ap (onFault (lowest (breaks Configuration m text passed o)) (o .place)) (own-fault Configuration h m n text (passed ++ o .place ∷ []) os)
-own-fault (TerminalWrite b) h m n text passed (o ∷ os) =
-    ap (onFault (lowest (breaks (TerminalWrite b) m text passed o)) (o .place)) (own-fault (TerminalWrite b) h m n text (passed ++ o .place ∷ []) os)
-own-fault CardAnswer h m n text passed (o ∷ os) = absurd (true≢false (sym h))
-
-pub own-judged : (k : TextKind) → own k ≡ true → (m n : Map) (text : List ℕ) → judged k m text ≡ judged k n text
-unfolding judged
-own-judged k h m n text = by (meaning text)
-  where
-    by : (x : Reading) → judgedBy k m text x ≡ judgedBy k n text x
-    by (wrong kind at) = refl
-    by (found ps) = own-fault k h m n text [] (objectsOf k text ps)
