@@ -3,12 +3,10 @@ use mathlib.Core.Path.{_≡_, refl, sym, _∙_}
 use mathlib.Core.Bool.{Bool, true, false, cond, _&&_}
 use mathlib.Core.List.{List, [], _∷_, _++_}
 use Prim.Native.Nat.{ℕ}
-use native.Mathlib.Omega.{arith}
 use Rattle.std.proofs.shelf.Tests.{true≢false, not-false}
 use Rattle.std.specs.declared.option.Option.{Option}
 use Rattle.std.specs.declared.option.Option.the-variants.{Some, None}
-use Rattle.std.specs.declared.result.Result.{Result}
-use Rattle.std.specs.declared.result.Result.the-variants.{Ok, Err}
+use Rattle.std.specs.declared.result.Result.the-variants.{Ok}
 use Rattle.dictionary.specs.declared.entry.Entry.{Entry}
 use Rattle.dictionary.specs.Dictionary.{entryOf}
 use Rattle.tlv.specs.declared.place.Place.{Place}
@@ -16,7 +14,6 @@ use Rattle.tlv.specs.Series.{found, meaning}
 use Rattle.store.specs.Map.{Map}
 use Rattle.judge.specs.declared.fault.ObjectFaultKind.{ObjectFaultKind}
 use Rattle.judge.specs.declared.fault.ObjectFaultKind.the-variants.{UnknownTag, OtherWriter, BadLength, BadDigits, TagTwice, HeldWithValue, AfterBegin}
-use Rattle.judge.specs.declared.fault.ObjectFault.{ObjectFault}
 use Rattle.judge.specs.declared.kind.TextKind.{TextKind}
 use Rattle.judge.specs.Kinds.{own}
 use Rattle.judge.specs.Objects.{plain}
@@ -24,11 +21,8 @@ use Rattle.judge.specs.Rules.{breaksBy, breaks, lowest}
 use Rattle.judge.specs.Judge.{onFault, judged}
 use Rattle.judge.specs.Walk.{builtIn, standsBefore, unknownAt, walked}
 use Rattle.judge.specs.Accepted.{FitsBy, AllFit}
-use Rattle.judge.proofs.Judging.{walk-judges}
+use Rattle.judge.proofs.Judging.{err-ok, walk-judges}
 use Rattle.judge.proofs.Lowest.{Lowest, lowest-is}
-
-err-ok : (f : ObjectFault) → _≡_ {A = Result (Unit {0}) ObjectFault} (Err f) (Ok tt) → ⊥
-err-ok f h = let z : _≡_ {A = ℕ} 0 1 = cc in omega arith
 
 -- a constructed object is a fault
 built-faulty : (c : Option Place) (at : ℕ) → standsBefore c at ≡ true → unknownAt c ≡ Ok tt → ⊥
