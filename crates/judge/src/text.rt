@@ -205,6 +205,7 @@ pub fn judge_text<S: ReadStore>(
     list: &mut [Place],
 ) -> Result<usize, JudgeRefusal>
     ensures answer { λ r. ⌜ answered r ≡ judgement (length (now (list .entry))) kind (S·ReadStore .held (now (store .entry))) (now (text .entry)) ⌝ }
+    ensures within { λ r. ⌜ made r (λ n. n ≤ length (now (list .exit))) ⌝ }
     ensures places { λ r. ⌜ made r (λ n. (n ≤ 64) × (meaning (now (text .entry)) ≡ found (take n (now (list .exit))))) ⌝ }
     ensures accepted { λ r. ⌜ made r (λ n. AllFit kind (S·ReadStore .held (now (store .entry))) (now (text .entry)) [] (take n (now (list .exit)))) ⌝ }
     ensures rules { λ _. ⌜ JudgedByRules kind (S·ReadStore .held (now (store .entry))) (now (text .entry)) ⌝ }
