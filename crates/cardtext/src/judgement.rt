@@ -1,4 +1,10 @@
 // What is printed by the dictionary: an object's name and writer, and how a text would be taken.
+ghost use mathlib.Core.Path.{_≡_};
+ghost use Rattle.std.specs.Of.Vec.{vec-items};
+ghost use Rattle.std.specs.Vec.{made};
+ghost use Rattle.cardtext.specs.Words.{wordsOf, withEntry};
+ghost use Rattle.dictionary.specs.Dictionary.{entryOf};
+ghost use Rattle.dictionary.specs.Names.{nameOf};
 use crate::report::push_number;
 use crate::report::push_tag;
 use dictionary::entry::Writer;
@@ -13,7 +19,9 @@ use std::alloc::Global;
 use tlv::place::Place;
 
 // The words for a writer.
-fn words_of(writer: Writer) -> &'static str {
+fn words_of(writer: Writer) -> &'static str
+    ensures { λ r. ⌜ now r ≡ wordsOf writer ⌝ }
+{
     match writer {
         Writer::Configuration => "configuration",
         Writer::TerminalBeforeBegin => "terminal before begin",
@@ -23,16 +31,17 @@ fn words_of(writer: Writer) -> &'static str {
     }
 }
 
-// The name and the writer of a tag, or `unknown`.
-pub fn push_entry(out: &mut Vec<u8>, tag: u32) -> Result<(), AllocError> {
-    let Some(entry) = lookup(tag) else {
+// The name and the writer of a tag, or `unknown`, behind what `out` holds.
+pub fn push_entry(out: &mut Vec<u8>, tag: u32) -> Result<(), AllocError>
+    ensures { λ r. ⌜ made r (λ _. vec-items (now (out .exit)) ≡ withEntry (vec-items (now (out .entry))) (entryOf tag) (nameOf tag)) ⌝ }
+{
+    let (Some(entry), Some(name)) = (lookup(tag), name_of(tag)) else {
         return out.extend_from_slice(b"unknown");
     };
-    if let Some(name) = name_of(tag) {
-        out.extend_from_slice(name.as_bytes())?;
-    }
+    out.extend_from_slice(name.as_bytes())?;
     out.extend_from_slice(b", ")?;
-    out.extend_from_slice(words_of(entry.writer).as_bytes())
+    out.extend_from_slice(words_of(entry.writer).as_bytes())?;
+    Ok(())
 }
 
 // The fault of an object.
