@@ -3,6 +3,7 @@ mod hexadecimal;
 mod input;
 mod line;
 mod numbers;
+mod sale;
 mod session;
 
 use crate::input::Input;
