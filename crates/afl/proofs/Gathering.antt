@@ -80,17 +80,6 @@ module _ (room : ℕ) (held : List Record) (xs : List ℕ) (h : 4 ≤ length xs)
       → aflFrom room more after ≡ aflFrom room held xs
   span-goes-on p more e g = sym (span p e ∙ ap (λ o. then o (λ held′. aflFrom room held′ after)) (sym g))
 
-pub no-more : (room : ℕ) (held : List Record) (xs : List ℕ) → length xs ≡ 0 → Some held ≡ aflFrom room held xs
-no-more room held [] h = refl
-no-more room held (x ∷ xs) h = absurd (omega arith)
-
-pub cut-short : (room : ℕ) (held : List Record) (xs : List ℕ) → length xs < 4 → (length xs ≡ 0 → ⊥) → None ≡ aflFrom room held xs
-cut-short room held [] h ne = absurd (ne refl)
-cut-short room held (f ∷ []) h ne = refl
-cut-short room held (f ∷ a ∷ []) h ne = refl
-cut-short room held (f ∷ a ∷ z ∷ []) h ne = refl
-cut-short room held (f ∷ a ∷ z ∷ n ∷ bs) h ne = absurd (omega arith)
-
 pub err-told : (r : Result (Unit {0}) AflFault) (xs : List Record) → isErr r ≡ true → told r xs ≡ None
 err-told (Ok x) xs e = absurd (false≢true e)
 err-told (Err b) xs e = refl

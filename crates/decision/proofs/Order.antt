@@ -64,9 +64,6 @@ pub record Level (xs ys : List ℕ) (i h l : ℕ) : Type 0 where
   pub left : digitsAfter (common + h) (drop i xs) ≡ decimal xs
   pub right : digitsAfter (common + l) (drop i ys) ≡ decimal ys
 
-pub level-none : (xs ys : List ℕ) → Level xs ys 0 0 0
-level-none xs ys = record { common = 0; left = refl; right = refl }
-
 next : (n : ℕ) (xs : List ℕ) (i : ℕ) → i < length xs → digitsAfter n (drop i xs) ≡ digitsAfter (n * 100 + twoDigits (getD xs i 0)) (drop (i + 1) xs)
 next n xs i h = at-drop-more (digitsAfter n) xs i 0 h
 
