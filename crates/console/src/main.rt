@@ -2,6 +2,7 @@
 mod input;
 mod line;
 mod numbers;
+mod sale;
 mod session;
 mod words;
 

@@ -17,7 +17,7 @@ use Rattle.decision.specs.Decision.{results, decided}
 use Rattle.afl.specs.Afl.{recordAt, recordsOf}
 use Rattle.dol.specs.Dol.{dolData}
 use Rattle.commands.specs.declared.instruction.CommandFault.{CommandFault}
-use Rattle.commands.specs.declared.instruction.CommandFault.the-variants.{List as FaultyList, DefaultList}
+use Rattle.commands.specs.declared.instruction.CommandFault.the-variants.{List as FaultyList}
 use Rattle.commands.specs.Commands.{readRecord, optionsCommand, generateCommand}
 use Rattle.tlv.specs.Worked.{Worked as TextsWorked}
 
