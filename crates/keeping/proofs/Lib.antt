@@ -5,3 +5,5 @@ pub mod Sharing
 pub mod Clearings
 pub mod Rooms
 pub mod Kept
+pub mod Owns
+pub mod Laws
