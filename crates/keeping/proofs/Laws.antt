@@ -26,6 +26,7 @@ use Rattle.judge.specs.declared.kind.TextKind.the-variants as kind
 use Rattle.judge.specs.Kinds.{writes, own}
 use Rattle.judge.specs.Rules.{listedAnd}
 use Rattle.judge.specs.Writers.{byWriter}
+use Rattle.judge.specs.Accepted.{AllFit}
 use Rattle.judge.specs.Judge.{judged}
 use Rattle.judge.proofs.Fitting.{accepted-fits, own-judged}
 use Rattle.keeping.specs.declared.shares.Shares.{Shares}
@@ -36,6 +37,7 @@ use Rattle.keeping.specs.Shares.{writerTotal, shareOf}
 use Rattle.keeping.specs.Room.{readerTag}
 use Rattle.keeping.specs.Clearing.{stays, cleared}
 use Rattle.keeping.specs.Taking.{onJudged, shareAnswer, takeAnswer, takeAfter}
+use Rattle.keeping.specs.Steps.{Weighed}
 use Rattle.keeping.specs.Own.{ownWriter, ownTag, SameOwn}
 use Rattle.keeping.proofs.Refills.{lastOf, stored-at}
 use Rattle.keeping.proofs.Kept.{Listed, all-listed, parts-same, stays-for}
@@ -113,10 +115,17 @@ own-entry t None h = absurd (false≢true h)
 own-entry t (Some e) h = (e, refl, h)
 
 -- A card's text that is accepted changes no object of our own.
-pub card-stored : (m : Map) (text : List ℕ) → judged CardAnswer m text ≡ Ok tt → SameOwn m (storedText text m)
-card-stored m text j t o =
+pub card-fits : (k : TextKind) → k ≡ CardAnswer → (m : Map) (text : List ℕ) (ps : List Place) → AllFit k m text [] ps → SameOwn m (stored text ps m)
+card-fits k is m text ps a t o =
     let q = own-entry t (entryOf t) o in
-    sym (others-stay CardAnswer m text j t (q .0) (q .1) (card-apart (q .0 .writer) (q .2)))
+    sym (stays-for k m text ps a t (q .0) (q .1) (ap (λ x. writes x (q .0 .writer)) is ∙ card-apart (q .0 .writer) (q .2)))
+
+pub card-stored : (m : Map) (text : List ℕ) → judged CardAnswer m text ≡ Ok tt → SameOwn m (storedText text m)
+card-stored m text j = by (meaning text) refl
+  where
+    by : (x : Reading) → meaning text ≡ x → SameOwn m (stored text (placesRead x) m)
+    by (wrong w at) is = same-refl m
+    by (found ps) is = card-fits CardAnswer refl m text ps (accepted-fits CardAnswer m text ps is j)
 
 -- Taking a card's text, or refusing it, changes none.
 pub card-taken : (s : Shares) (room : ℕ) (m : Map) (text : List ℕ) → SameOwn m (takeAfter (takeAnswer s CardAnswer room m text) text m)
@@ -158,3 +167,10 @@ reader-put m t v r u o =
     sym (changed-other m t u (Some v) (λ same.
     let one : q .0 ≡ k .0 = let c = sym (q .1) ∙ ap entryOf same ∙ k .1 in cc in
     both-ways (ownWriter (q .0 .writer)) (ap (λ y. ownWriter (y .writer)) one ∙ ap ownWriter (k .2)) (q .2)))
+
+-- The objects of our own that a weighed text of a card leaves.
+pub card-kept : (s : Shares) (k : TextKind) (m n : Map) (text : List ℕ) (ps : List Place) → Weighed s k m text ps → n ≡ storedText text m → k ≡ CardAnswer → SameOwn m n
+card-kept s k m n text ps w after is =
+    let F : List Place → Type 0 = λ x. AllFit k m text [] x in
+    let S : Map → Type 0 = λ x. SameOwn m x in
+    subst S (sym after) (card-fits k is m text (placesRead (meaning text)) (subst F (w .places) (w .fits)))
