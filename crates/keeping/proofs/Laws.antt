@@ -4,9 +4,8 @@ use mathlib.Core.Path.{_≡_, refl, sym, ap, _∙_, subst}
 use mathlib.Core.Bool.{Bool, true, false, cond}
 use mathlib.Core.List.{List, []}
 use Prim.Native.Nat.{ℕ}
-use native.Mathlib.Omega.{arith}
 use lib.Dec.{ltb}
-use Rattle.std.proofs.shelf.Tests.{both-ways, true≢false, false≢true}
+use Rattle.std.proofs.shelf.Tests.{both-ways, false≢true}
 use Rattle.std.specs.declared.option.Option.{Option}
 use Rattle.std.specs.declared.option.Option.the-variants.{Some, None}
 use Rattle.std.specs.declared.result.Result.{Result}
@@ -31,16 +30,16 @@ use Rattle.judge.specs.Judge.{judged}
 use Rattle.judge.proofs.Fitting.{accepted-fits, own-judged}
 use Rattle.keeping.specs.declared.shares.Shares.{Shares}
 use Rattle.keeping.specs.declared.refusal.TakeRefusal.{TakeRefusal}
-use Rattle.keeping.specs.declared.refusal.TakeRefusal.the-variants.{ListShort, Fault, Share}
+use Rattle.keeping.specs.declared.refusal.TakeRefusal.the-variants.{ListShort, Share}
 use Rattle.keeping.specs.Keeping.{stored, placesRead, storedText}
 use Rattle.keeping.specs.Shares.{writerTotal, shareOf}
 use Rattle.keeping.specs.Room.{readerTag}
 use Rattle.keeping.specs.Clearing.{stays, cleared}
 use Rattle.keeping.specs.Taking.{onJudged, shareAnswer, takeAnswer, takeAfter}
 use Rattle.keeping.specs.Steps.{Weighed}
-use Rattle.keeping.specs.Own.{ownWriter, ownTag, SameOwn}
+use Rattle.keeping.specs.Own.{ownWriter, SameOwn}
 use Rattle.keeping.proofs.Refills.{lastOf, stored-at}
-use Rattle.keeping.proofs.Kept.{Listed, all-listed, parts-same, stays-for}
+use Rattle.keeping.proofs.Kept.{all-listed, parts-same, stays-for}
 use Rattle.keeping.proofs.Owns.{own-reader}
 
 -- holding the same objects of our own is an equality

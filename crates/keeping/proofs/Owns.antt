@@ -1,21 +1,18 @@
 -- Putting one of the reader's own objects. Assumes nothing.
 use mathlib.Core.Path.{_≡_, refl, sym, ap, _∙_, subst}
-use mathlib.Core.Bool.{Bool, true, false, cond, _||_}
+use mathlib.Core.Bool.{true}
 use mathlib.Core.Logic.{⊎-elim}
 use mathlib.Core.List.{List}
 use Prim.Native.Nat.{ℕ, _≤_}
 use native.Mathlib.Omega.{arith}
 use lib.Dec.{eqb}
 use lib.ListN.{length}
-use Rattle.std.proofs.shelf.Tests.{cases-bool, both-ways, eqb-true, cond-true, cond-false, or-cases}
-use Rattle.std.specs.declared.option.Option.{Option}
+use Rattle.std.proofs.shelf.Tests.{both-ways, eqb-true, or-cases}
 use Rattle.std.specs.declared.option.Option.the-variants.{Some, None}
-use Rattle.std.specs.declared.result.Result.{Result}
-use Rattle.std.specs.declared.result.Result.the-variants.{Ok, Err}
+use Rattle.std.specs.declared.result.Result.the-variants.{Ok}
 use Rattle.dictionary.specs.declared.entry.Entry.{Entry}
 use Rattle.dictionary.specs.declared.entry.Writer.the-variants.{Reader}
 use Rattle.dictionary.specs.Dictionary.{dictionary, entryOf}
-use Rattle.store.specs.declared.writing.Refused.{Refused}
 use Rattle.store.specs.Map.{Map, changed, size}
 use Rattle.store.specs.Maps.{changed-here, changed-other}
 use Rattle.store.specs.Answer.{put-answer, put-after}

@@ -1,5 +1,5 @@
 -- How many value bytes a writer has.
-use mathlib.Core.Bool.{Bool, cond}
+use mathlib.Core.Bool.{cond}
 use mathlib.Core.List.{List, [], _∷_}
 use Prim.Native.Nat.{ℕ, _+_}
 use Rattle.dictionary.specs.declared.entry.Entry.{Entry}
