@@ -7,3 +7,4 @@ pub mod Rooms
 pub mod Kept
 pub mod Owns
 pub mod Laws
+pub mod Taken
