@@ -1,0 +1,10 @@
+pub mod Keepings
+pub mod Refills
+pub mod Replacings
+pub mod Sharing
+pub mod Clearings
+pub mod Rooms
+pub mod Kept
+pub mod Owns
+pub mod Laws
+pub mod Taken
