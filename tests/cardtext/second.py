@@ -1,7 +1,11 @@
 #!/usr/bin/env python3
 """Answers card texts as cardtext does, by itself: reads lines from standard input, writes to standard output."""
+import re
 import sys
 
+from objects import entries
+
+ENTRIES = entries()
 DEEPEST = 5
 MOST_OBJECTS = 64
 
@@ -71,8 +75,62 @@ def objects(text):
     return found
 
 
+def outermost(text):
+    """The outermost objects of a text that has no fault, as (place, tag bytes, value, whether it is constructed)."""
+    found = []
+    place = 0
+    while place < len(text):
+        if text[place] == 0:
+            place += 1
+            continue
+        tag, first, last = head(text, place, len(text))
+        found.append((place, tag, text[first:last], bool(tag[0] & 0x20)))
+        place = last
+    return found
+
+
 def shown(value):
     return value.hex().upper() or '-'
+
+
+def about(tag):
+    entry = ENTRIES.get(shown(tag))
+    return entry[4] + ', ' + entry[0] if entry else 'unknown'
+
+
+def digits_fit(form, value):
+    digits = value.hex()
+    if form == 'n':
+        return re.fullmatch('[0-9]*', digits) is not None
+    if form == 'cn':
+        return re.fullmatch('[0-9]*f*', digits) is not None
+    return True
+
+
+def fault_of(own, writers, before, tag, value, constructed):
+    """The number of the lowest rule that an object breaks, or 0. Nothing is held, and the sale has not begun."""
+    entry = ENTRIES.get(shown(tag))
+    if constructed or entry is None:
+        return 1 if own else 0
+    writer, least, most, form, _ = entry
+    if writer not in writers:
+        return 2
+    if value and not least <= len(value) <= most:
+        return 3
+    if not digits_fit(form, value):
+        return 4
+    return 5 if tag in before else 0
+
+
+def taking(own, writers, judged):
+    """How objects are taken from one that writes for these writers."""
+    before = []
+    for place, tag, value, constructed in judged:
+        kind = fault_of(own, writers, before, tag, value, constructed)
+        if kind:
+            return 'object fault %d place %d tag %s' % (kind, place, shown(tag))
+        before.append(tag)
+    return 'ok'
 
 
 def answer(line):
@@ -91,8 +149,14 @@ def answer(line):
     except Fault as fault:
         return lines + ['fault %d place %d' % (fault.kind, fault.place)]
     for place, tag, value in found:
-        lines.append('  %d %s %s' % (place, shown(tag), shown(value)))
-    return lines + ['ok %d' % len(found)]
+        lines.append('  %d %s %s  %s' % (place, shown(tag), shown(value), about(tag)))
+    lines.append('ok %d' % len(found))
+    outer = outermost(text)
+    inner = [(place, tag, value, False) for place, tag, value in found]
+    lines.append('configuration: ' + taking(True, ['configuration'], outer))
+    lines.append('terminal: ' + taking(True, ['terminal before begin', 'terminal'], outer))
+    lines.append('card: ' + taking(False, ['card'], inner))
+    return lines
 
 
 def main():

@@ -1,11 +1,9 @@
 -- Adding the records of a locator one after the other. Assumes nothing.
-use mathlib.Core.Path.{_≡_, refl, sym, ap, _∙_, subst}
-use mathlib.Core.Bool.{Bool, true, false, cond, _&&_}
-use mathlib.Core.Logic.{⊎-elim}
+use mathlib.Core.Path.{_≡_, refl, sym, ap, _∙_}
+use mathlib.Core.Bool.{Bool, true, false, cond}
 use mathlib.Core.List.{List, [], _∷_, _++_}
-use Prim.Native.Nat.{ℕ, zero, suc, _+_, _-_, _/_, _<_, _≤_}
+use Prim.Native.Nat.{ℕ, suc, _+_, _-_, _/_, _<_, _≤_}
 use native.Mathlib.Omega.{arith}
-use lib.Dec.{ltb}
 use lib.ListN.{length, getD, take, drop}
 use Rattle.std.specs.declared.option.Option.{Option}
 use Rattle.std.specs.declared.option.Option.the-variants.{Some, None}
@@ -81,17 +79,6 @@ module _ (room : ℕ) (held : List Record) (xs : List ℕ) (h : 4 ≤ length xs)
   pub span-goes-on : (p : Span) (more : List Record) → Some p ≡ spanOf (getD xs 0 0) (getD xs 1 0) (getD xs 2 0) (getD xs 3 0) → Some more ≡ gather room held (runOf p)
       → aflFrom room more after ≡ aflFrom room held xs
   span-goes-on p more e g = sym (span p e ∙ ap (λ o. then o (λ held′. aflFrom room held′ after)) (sym g))
-
-pub no-more : (room : ℕ) (held : List Record) (xs : List ℕ) → length xs ≡ 0 → Some held ≡ aflFrom room held xs
-no-more room held [] h = refl
-no-more room held (x ∷ xs) h = absurd (omega arith)
-
-pub cut-short : (room : ℕ) (held : List Record) (xs : List ℕ) → length xs < 4 → (length xs ≡ 0 → ⊥) → None ≡ aflFrom room held xs
-cut-short room held [] h ne = absurd (ne refl)
-cut-short room held (f ∷ []) h ne = refl
-cut-short room held (f ∷ a ∷ []) h ne = refl
-cut-short room held (f ∷ a ∷ z ∷ []) h ne = refl
-cut-short room held (f ∷ a ∷ z ∷ n ∷ bs) h ne = absurd (omega arith)
 
 pub err-told : (r : Result (Unit {0}) AflFault) (xs : List Record) → isErr r ≡ true → told r xs ≡ None
 err-told (Ok x) xs e = absurd (false≢true e)

@@ -1,27 +1,21 @@
 -- Records added one after the other are those that the locator names, each once. Assumes nothing.
 use mathlib.Core.Path.{_≡_, refl, sym, ap, _∙_, subst}
 use mathlib.Core.Bool.{Bool, true, false, cond, not, _&&_}
-use mathlib.Core.Logic.{⊎-elim}
 use mathlib.Core.List.{List, [], _∷_, _++_}
 use Prim.Native.Nat.{ℕ, zero, suc, _+_, _-_, _/_, _<_, _≤_}
 use native.Mathlib.Omega.{arith}
 use lib.Dec.{ltb, leb, eqb}
-use lib.ListN.{length, getD, take}
+use lib.ListN.{length, getD}
 use Rattle.std.proofs.shelf.Lists.{append-nil, append-assoc, length-append, length-push, getD-append-left, getD-at}
 use Rattle.std.proofs.shelf.Tests.{false≢true, true≢false, ltb-true, ltb-false, eqb-true, eq-eqb, and-parts, and-from, not-true, leb-true, le-leb, cond-true}
 use Rattle.std.specs.declared.option.Option.{Option}
 use Rattle.std.specs.declared.option.Option.the-variants.{Some, None}
-use Rattle.std.specs.declared.result.Result.{Result}
-use Rattle.std.specs.declared.result.Result.the-variants.{Ok, Err}
 use Rattle.keyed.specs.declared.record.Record.{Record}
-use Rattle.keyed.specs.declared.list.Addition.{Addition}
 use Rattle.keyed.specs.declared.list.Addition.the-variants.{Added, AlreadyThere, Full}
-use Rattle.keyed.specs.Elements.{answer}
 use Rattle.keyed.specs.Keys.{or, both, holds, Distinct}
 use Rattle.keyed.specs.Records.{record-same}
 use Rattle.keyed.proofs.Apart.{distinct-push, other-keys}
-use Rattle.afl.specs.declared.locator.AflFault.{AflFault}
-use Rattle.afl.specs.Afl.{good, recordAt, run, wellMade, named, distinct, accepted, recordsOf, counted, front}
+use Rattle.afl.specs.Afl.{good, run, wellMade, named, distinct, accepted, recordsOf}
 use Rattle.afl.specs.Steps.{onAdded, gather, then, aflFrom}
 
 symmetric : (x y : Record) → record-same x y ≡ true → record-same y x ≡ true

@@ -1,21 +1,18 @@
 -- Each record that an accepted AFL names stands once in its list, in a file of SFI 1 to 30.
 use mathlib.Core.Path.{_≡_, refl, sym, ap, _∙_, subst}
-use mathlib.Core.Bool.{Bool, true, false, cond, not, _&&_, _||_}
+use mathlib.Core.Bool.{Bool, true, false, cond, not, _&&_}
 use mathlib.Core.Logic.{⊎-elim}
 use mathlib.Core.List.{List, [], _∷_, _++_}
 use Prim.Native.Nat.{ℕ, zero, suc, _+_, _-_, _*_, _/_, _%_, _<_, _≤_}
-use native.Mathlib.Nat.{add-assoc}
 use native.Mathlib.Omega.{arith}
 use lib.Dec.{ltb, leb, eqb}
-use lib.ListN.{length}
 use Rattle.std.specs.shelf.Lists.{All}
 use Rattle.std.proofs.shelf.Elements.{all-append}
 use Rattle.std.proofs.shelf.Tests.{false≢true, true≢false, eqb-true, eq-eqb, leb-true, and-parts, and-from, or-cases, or-parts, not-true, le-leb, cond-true, cases-eq}
-use Rattle.std.specs.declared.option.Option.the-variants.{Some}
 use Rattle.keyed.specs.declared.record.Record.{Record}
 use Rattle.keyed.specs.Keys.{or, both, holds}
 use Rattle.keyed.specs.Records.{record-same}
-use Rattle.afl.specs.Afl.{good, recordAt, run, wellMade, named, distinct, recordsOf}
+use Rattle.afl.specs.Afl.{good, recordAt, run, wellMade, named, distinct}
 use Rattle.afl.specs.Laws.{within, names, times, Each-once, Files}
 use Rattle.afl.proofs.Naming.{accepted-is}
 

@@ -1,5 +1,5 @@
 -- An AFL read entry by entry into a list that takes each record once.
-use mathlib.Core.Bool.{Bool, cond}
+use mathlib.Core.Bool.{cond}
 use mathlib.Core.List.{List, [], _∷_, _++_}
 use Prim.Native.Nat.{ℕ, _+_, _-_, _/_}
 use Rattle.std.specs.declared.option.Option.{Option}

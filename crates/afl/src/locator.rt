@@ -1,6 +1,5 @@
 // Reading an AFL.
 ghost use mathlib.Core.Path.{_≡_};
-ghost use mathlib.Core.List.{[]};
 ghost use lib.ListN.{length};
 ghost use denote.Ref.{name};
 ghost use Rattle.keyed.specs.Elements.{elements, memory};

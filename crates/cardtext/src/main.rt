@@ -1,4 +1,4 @@
-// Reads card texts, one to a line, and prints what is in them.
+// Reads card texts, one to a line, and prints what is in them and how they would be taken.
 use hexadecimal::read::bytes_of;
 use hexadecimal::read::is_blank;
 use std::alloc::AllocError;
@@ -8,6 +8,7 @@ use std::io::BufRead;
 use std::io::BufReader;
 use std::io::Write;
 
+mod judgement;
 mod report;
 
 // What a line of the input is.

@@ -1,4 +1,6 @@
 // What is printed of a text.
+use crate::judgement::push_entry;
+use crate::judgement::push_takings;
 use hexadecimal::write::push_hex;
 use std::alloc::AllocError;
 use std::alloc::Global;
@@ -15,13 +17,13 @@ const BLANK: Place = Place {
 };
 
 // A number in decimal.
-fn push_number(heap: Global, out: &mut Vec<u8>, n: usize) -> Result<(), AllocError> {
+pub fn push_number(heap: Global, out: &mut Vec<u8>, n: usize) -> Result<(), AllocError> {
     let digits = format!(heap, "{n}")?;
     out.extend_from_slice(digits.as_bytes())
 }
 
 // A tag, as its bytes.
-fn push_tag(out: &mut Vec<u8>, tag: u32) -> Result<(), AllocError> {
+pub fn push_tag(out: &mut Vec<u8>, tag: u32) -> Result<(), AllocError> {
     let bytes = tag.to_be_bytes();
     if tag < 0x100 {
         push_hex(out, &bytes[3..4])
@@ -32,7 +34,7 @@ fn push_tag(out: &mut Vec<u8>, tag: u32) -> Result<(), AllocError> {
     }
 }
 
-// The line of a primitive object: its place, its tag and its value.
+// The line of a primitive object: its place, its tag and its value, and what the dictionary has of the tag.
 fn push_object(
     heap: Global,
     out: &mut Vec<u8>,
@@ -45,6 +47,8 @@ fn push_object(
     push_tag(out, place.tag)?;
     out.extend_from_slice(b" ")?;
     push_hex(out, place.value_in(text))?;
+    out.extend_from_slice(b"  ")?;
+    push_entry(out, place.tag)?;
     out.extend_from_slice(b"\n")
 }
 
@@ -80,7 +84,10 @@ pub fn of_text(heap: Global, text: &[u8]) -> Result<Vec<u8>, AllocError> {
     out.extend_from_slice(b"\n")?;
     let mut list = [BLANK; 64];
     match read_text(text, &mut list) {
-        Ok(n) => push_objects(heap, &mut out, text, &list[0..n])?,
+        Ok(n) => {
+            push_objects(heap, &mut out, text, &list[0..n])?;
+            push_takings(heap, &mut out, text, &mut list)?;
+        }
         Err(ReadRefusal::Fault(fault)) => push_fault(heap, &mut out, fault)?,
         // The work list above is long enough.
         Err(ReadRefusal::ListShort) => {}

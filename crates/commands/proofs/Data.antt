@@ -1,7 +1,7 @@
 -- What the size of a list says of its data, and the value that a store copies out.
 use mathlib.Core.Path.{_≡_, refl, sym, ap, _∙_}
 use mathlib.Core.Bool.{Bool, true, false, cond}
-use mathlib.Core.List.{List, [], _∷_, _++_}
+use mathlib.Core.List.{List, _++_}
 use Prim.Native.Nat.{ℕ, _-_, _≤_}
 use native.Mathlib.Omega.{arith}
 use lib.Dec.{leb, ltb}
@@ -13,8 +13,7 @@ use Rattle.std.specs.declared.result.Result.the-variants.{Ok, Err}
 use Rattle.std.proofs.shelf.Lists.{take-at}
 use Rattle.std.proofs.shelf.Tests.{cond-true, le-leb, leb-true}
 use Rattle.store.specs.Map.{Map}
-use Rattle.store.specs.declared.reading.Copied.{Copied}
-use Rattle.store.specs.declared.reading.Copied.the-variants.{Missing, Short, Filled}
+use Rattle.store.specs.declared.reading.Copied.the-variants.{Short, Filled}
 use Rattle.store.specs.Answer.{copy-answer, copy-after}
 use Rattle.dol.specs.declared.size.DolFault.{DolFault}
 use Rattle.dol.specs.Dol.{Asked, entries, total, dataOf, within, dolData, sizeOf}

@@ -1,11 +1,10 @@
 -- A command with a list's data in its middle.
-use mathlib.Core.Path.{_≡_, refl, sym, ap, _∙_}
+use mathlib.Core.Path.{_≡_, sym, ap, _∙_}
 use mathlib.Core.List.{List, [], _∷_, _++_, append-assoc, append-nil}
-use Prim.Native.Nat.{ℕ, _+_, _-_, _<_, _≤_}
+use Prim.Native.Nat.{ℕ, _+_, _-_, _<_}
 use native.Mathlib.Omega.{arith}
 use borrow.Rule.Slice.PartMut.{putMid, postOf}
 use lib.ListN.{length, getD, take, drop, set, length-append, length-drop}
-use Rattle.std.specs.declared.option.Option.{Option}
 use Rattle.std.specs.declared.option.Option.the-variants.{Some, None}
 use Rattle.std.specs.declared.result.Result.the-variants.{Ok, Err}
 use Rattle.std.proofs.shelf.Lists.{take-at, drop-at, drop-all, drop-drop, drop-more, set-at, nil-from-length}
@@ -15,7 +14,7 @@ use Rattle.dol.specs.Dol.{entries, dolData, sizeOf, filled}
 use Rattle.commands.specs.declared.instruction.CommandFault.{CommandFault}
 use Rattle.commands.specs.Commands.{onData}
 use Rattle.commands.specs.Building.{told, written, framed}
-use Rattle.commands.proofs.Data.{Data, with-data, without-data}
+use Rattle.commands.proofs.Data.{with-data}
 
 -- `y` in front, `ds` behind it, and then '00'
 frame : (h n : ℕ) (buf y ds : List ℕ) → length y ≡ h → length ds ≡ n → h + n < length buf →

@@ -1,11 +1,10 @@
 -- Only the lists and the objects that they name move a byte of a command.
-use mathlib.Core.Path.{_≡_, refl, sym, ap, subst, _∙_}
+use mathlib.Core.Path.{_≡_, refl, sym, ap, _∙_}
 use mathlib.Core.Bool.{Bool, true, false, cond, not}
-use mathlib.Core.List.{List, [], _∷_}
+use mathlib.Core.List.{List}
 use Prim.Native.Nat.{ℕ}
 use lib.Dec.{eqb}
 use lib.ListN.{length}
-use Rattle.std.specs.declared.option.Option.{Option}
 use Rattle.std.specs.declared.result.Result.{Result}
 use Rattle.std.proofs.shelf.Tests.{cond-true, cond-false, ne-eqb, eq-eqb}
 use Rattle.store.specs.Map.{Map}
@@ -16,7 +15,7 @@ use Rattle.dol.proofs.Lawful.{lawful}
 use Rattle.commands.specs.declared.instruction.CommandFault.{CommandFault}
 use Rattle.commands.specs.declared.instruction.CommandFault.the-variants.{List as FaultyList, DefaultList}
 use Rattle.commands.specs.Commands.{bytes, onData, getOptions, generateAc, serves, optionsCommand, generateCommand}
-use Rattle.commands.specs.Laws.{Options-named, serving, Generate-named}
+use Rattle.commands.specs.Laws.{Options-named, Generate-named}
 
 pub options-named : (held : Map) → Options-named held
 unfolding optionsCommand

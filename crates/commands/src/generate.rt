@@ -2,7 +2,6 @@
 ghost use mathlib.Core.Path.{_≡_};
 ghost use Prim.Native.Nat.{_≤_};
 ghost use lib.ListN.{length};
-ghost use Rattle.std.specs.declared.result.Result.the-variants.{Err as Refused};
 ghost use Rattle.dol.specs.Dol.{dolData};
 ghost use Rattle.commands.specs.Commands.{onData, generateAc, generateCommand};
 ghost use Rattle.commands.specs.Building.{roomy, told, written};
@@ -58,7 +57,6 @@ fn generate_for<S: ReadStore>(
     requires { ⌜ 261 ≤ length (now command) ⌝ }
     ensures value { λ r. ⌜ r ≡ told (generateCommand kind (held (now (store .entry)))) ⌝ }
     ensures after { λ _. ⌜ now (command .exit) ≡ written (generateCommand kind (held (now (store .entry)))) (now (command .entry)) ⌝ }
-    ensures law { λ _. ⌜ Generate-named kind (held (now (store .entry))) ⌝ }
 {
     let mut buffer = [0u8; 255];
     let cdol1 = value_in(store, CDOL1, &mut buffer);
@@ -70,6 +68,11 @@ fn generate_for<S: ReadStore>(
     generate_with(store, kind, cdol1, CommandFault::DefaultList, command)
 }
 
+// No object moves a byte of the command but CDOL1, Default CDOL1 and those that the serving one names.
+fn only_named_objects_move_it<S: ReadStore>(store: &S, kind: Cryptogram)
+    ensures { λ _. ⌜ Generate-named kind (held (now (store .entry))) ⌝ }
+{}
+
 // Writes the command for a kind of cryptogram and what is held; how many bytes it has.
 pub fn generate_ac<S: ReadStore>(
     store: &S,
@@ -78,8 +81,9 @@ pub fn generate_ac<S: ReadStore>(
 ) -> Result<usize, CommandFault>
     ensures value { λ r. ⌜ r ≡ told (roomy (length (now (command .entry))) (generateCommand kind (held (now (store .entry))))) ⌝ }
     ensures after { λ _. ⌜ now (command .exit) ≡ written (roomy (length (now (command .entry))) (generateCommand kind (held (now (store .entry))))) (now (command .entry)) ⌝ }
-    ensures law { λ r. ⌜ ((r ≡ Refused CommandFault.ShortBuffer → ⊥) → Generate-named kind (held (now (store .entry)))) ⌝ }
+    ensures law { λ _. ⌜ Generate-named kind (held (now (store .entry))) ⌝ }
 {
+    only_named_objects_move_it(store, kind);
     if command.len() < 261 {
         return Err(CommandFault::ShortBuffer);
     }

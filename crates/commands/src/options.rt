@@ -2,7 +2,6 @@
 ghost use mathlib.Core.Path.{_≡_};
 ghost use Prim.Native.Nat.{_≤_};
 ghost use lib.ListN.{length};
-ghost use Rattle.std.specs.declared.result.Result.the-variants.{Err as Refused};
 ghost use Rattle.dol.specs.Dol.{dolData};
 ghost use Rattle.commands.specs.Commands.{onData, getOptions, optionsCommand};
 ghost use Rattle.commands.specs.Building.{roomy, told, written};
@@ -46,12 +45,16 @@ fn options_for<S: ReadStore>(store: &S, command: &mut [u8]) -> Result<usize, Com
     requires { ⌜ 261 ≤ length (now command) ⌝ }
     ensures value { λ r. ⌜ r ≡ told (optionsCommand (held (now (store .entry)))) ⌝ }
     ensures after { λ _. ⌜ now (command .exit) ≡ written (optionsCommand (held (now (store .entry)))) (now (command .entry)) ⌝ }
-    ensures law { λ _. ⌜ Options-named (held (now (store .entry))) ⌝ }
 {
     let mut buffer = [0u8; 255];
     let pdol = value_in(store, PDOL, &mut buffer);
     options_with(store, pdol, command)
 }
+
+// No object moves a byte of the command but the PDOL and those that it names.
+fn only_named_objects_move_it<S: ReadStore>(store: &S)
+    ensures { λ _. ⌜ Options-named (held (now (store .entry))) ⌝ }
+{}
 
 // Writes the command for what is held; how many bytes it has.
 pub fn get_processing_options<S: ReadStore>(
@@ -60,8 +63,9 @@ pub fn get_processing_options<S: ReadStore>(
 ) -> Result<usize, CommandFault>
     ensures value { λ r. ⌜ r ≡ told (roomy (length (now (command .entry))) (optionsCommand (held (now (store .entry))))) ⌝ }
     ensures after { λ _. ⌜ now (command .exit) ≡ written (roomy (length (now (command .entry))) (optionsCommand (held (now (store .entry))))) (now (command .entry)) ⌝ }
-    ensures law { λ r. ⌜ ((r ≡ Refused CommandFault.ShortBuffer → ⊥) → Options-named (held (now (store .entry)))) ⌝ }
+    ensures law { λ _. ⌜ Options-named (held (now (store .entry))) ⌝ }
 {
+    only_named_objects_move_it(store);
     if command.len() < 261 {
         return Err(CommandFault::ShortBuffer);
     }

@@ -1,7 +1,9 @@
 // What a line asks for.
-use crate::hexadecimal::bytes_of;
-use crate::hexadecimal::tag_of;
 use crate::numbers::number;
+use crate::sale::Question;
+use crate::sale::asked_of;
+use crate::words::bytes_of;
+use crate::words::tag_of;
 use keyed::tag::Tag;
 use std::alloc::AllocError;
 use std::alloc::Global;
@@ -32,6 +34,7 @@ pub(crate) enum Line {
     Drop(Tag),
     Length(Tag),
     Copy(Tag, usize),
+    Sale(Question),
     NotUnderstood,
 }
 
@@ -107,5 +110,8 @@ pub(crate) fn understood(heap: Global, line: &str) -> Result<Line, AllocError> {
         Some((before, _)) => before,
     };
     let words: Vec<&str> = text.split_ascii_whitespace().collect(heap)?;
-    of_words(heap, words.as_slice())
+    match asked_of(heap, words.as_slice())? {
+        Some(question) => Ok(Line::Sale(question)),
+        None => of_words(heap, words.as_slice()),
+    }
 }

@@ -1,9 +1,10 @@
 // A console over the stores: it reads lines, makes the store that a line asks for, and prints what the store answers.
-mod hexadecimal;
 mod input;
 mod line;
 mod numbers;
+mod sale;
 mod session;
+mod words;
 
 use crate::input::Input;
 use crate::line::Kind;

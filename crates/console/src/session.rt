@@ -1,9 +1,10 @@
 // The calls of one store, whatever its make.
-use crate::hexadecimal::word_of;
 use crate::input::Input;
 use crate::line::Line;
 use crate::line::Make;
 use crate::line::understood;
+use crate::sale::answer;
+use crate::words::word_of;
 use keyed::tag::Tag;
 use std::alloc::Global;
 use std::io;
@@ -84,6 +85,7 @@ pub(crate) fn session<S: WriteStore>(
             Line::Drop(tag) => remove(rt, store, tag)?,
             Line::Length(tag) => length(rt, store, tag)?,
             Line::Copy(tag, n) => copy(rt, heap, store, tag, n)?,
+            Line::Sale(question) => answer(rt, heap, &*store, &question)?,
             Line::NotUnderstood => {
                 let n = input.count();
                 println!(rt, "line {n} not understood")?;

@@ -1,8 +1,8 @@
 -- A higher amount never makes the decision milder.
-use mathlib.Core.Path.{_≡_, refl, sym, ap, subst, _∙_}
-use mathlib.Core.Bool.{Bool, true, false, not, cond, _||_}
+use mathlib.Core.Path.{_≡_, refl, sym, subst}
+use mathlib.Core.Bool.{Bool, true, false, not, cond}
 use mathlib.Core.List.{List, [], _∷_}
-use Prim.Native.Nat.{ℕ, _≤_, _<_}
+use Prim.Native.Nat.{ℕ, _≤_}
 use native.Mathlib.Omega.{arith}
 use lib.Bits.{bitAnd}
 use lib.Dec.{eqb, ltb}
@@ -10,7 +10,7 @@ use Rattle.std.proofs.shelf.Tests.{false≢true, ltb-true, lt-ltb, or-right}
 use Rattle.decision.specs.declared.cryptogram.Cryptogram.{Cryptogram}
 use Rattle.decision.specs.declared.cryptogram.Cryptogram.the-variants.{Aac, Tc, Arqc}
 use Rattle.decision.specs.Amounts.{decimal}
-use Rattle.decision.specs.Decision.{results, shareBit, onlineOnly, offlineOnly, decided}
+use Rattle.decision.specs.Decision.{shareBit, onlineOnly, offlineOnly}
 use Rattle.decision.specs.Laws.{Never-milder}
 
 -- the decision by the answers to its four questions

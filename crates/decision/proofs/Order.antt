@@ -1,10 +1,10 @@
 -- Numbers of decimal digits are compared byte by byte: a lead of two or more is never lost, since the two digits of a
 -- byte mean at most 165.
-use mathlib.Core.Path.{_≡_, refl, sym, ap, subst, _∙_}
-use mathlib.Core.Bool.{Bool, true, false}
+use mathlib.Core.Path.{_≡_, refl, sym, ap, _∙_}
+use mathlib.Core.Bool.{true, false}
 use mathlib.Core.Logic.{⊎-elim}
 use mathlib.Core.List.{List, [], _∷_, _++_}
-use Prim.Native.Nat.{ℕ, zero, suc, min, _+_, _-_, _*_, _/_, _%_, _<_, _≤_}
+use Prim.Native.Nat.{ℕ, zero, suc, min, _+_, _-_, _*_, _<_, _≤_}
 use native.Mathlib.Omega.{arith}
 use lib.Dec.{ltb}
 use lib.ListN.{length, getD, drop, replicate, length-drop}
@@ -63,9 +63,6 @@ pub record Level (xs ys : List ℕ) (i h l : ℕ) : Type 0 where
   pub common : ℕ
   pub left : digitsAfter (common + h) (drop i xs) ≡ decimal xs
   pub right : digitsAfter (common + l) (drop i ys) ≡ decimal ys
-
-pub level-none : (xs ys : List ℕ) → Level xs ys 0 0 0
-level-none xs ys = record { common = 0; left = refl; right = refl }
 
 next : (n : ℕ) (xs : List ℕ) (i : ℕ) → i < length xs → digitsAfter n (drop i xs) ≡ digitsAfter (n * 100 + twoDigits (getD xs i 0)) (drop (i + 1) xs)
 next n xs i h = at-drop-more (digitsAfter n) xs i 0 h

@@ -2,7 +2,7 @@
 use mathlib.Core.Path.{_≡_}
 use mathlib.Core.List.{List}
 use Prim.Native.Nat.{ℕ, _≤_}
-use Rattle.decision.specs.declared.cryptogram.Cryptogram.the-variants.{Aac, Tc, Arqc}
+use Rattle.decision.specs.declared.cryptogram.Cryptogram.the-variants.{Aac, Tc}
 use Rattle.decision.specs.Amounts.{decimal}
 use Rattle.decision.specs.Decision.{results, decided}
 

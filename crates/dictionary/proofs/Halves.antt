@@ -1,4 +1,4 @@
--- Half-bytes: one byte more of a loop over a value. Assumes nothing.
+-- Half-bytes: one byte more of a loop over a value.
 use mathlib.Core.Path.{_≡_, refl, sym, ap, _∙_}
 use mathlib.Core.Bool.{Bool, true, false, not, cond, _&&_}
 use mathlib.Core.List.{List, [], _∷_}

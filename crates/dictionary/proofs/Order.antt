@@ -1,20 +1,17 @@
--- The dictionary's order, from one test that is computed over the whole table. Assumes nothing.
+-- The dictionary's order, from one test that is computed over the whole table.
 use mathlib.Core.Path.{_≡_, refl, sym, ap, subst, _∙_}
-use mathlib.Core.Bool.{Bool, true, false, not, cond, _&&_}
+use mathlib.Core.Bool.{Bool, true, false, not, _&&_}
 use mathlib.Core.Logic.{⊎-elim}
 use mathlib.Core.List.{List, [], _∷_}
-use Prim.Native.Nat.{ℕ, zero, suc, _+_, _<_, _≤_}
+use Prim.Native.Nat.{ℕ, zero, suc, _<_}
 use native.Mathlib.Nat.{le-of-suc-le-suc, not-suc-le-zero}
 use native.Mathlib.Omega.{arith}
 use lib.Dec.{eqb, ltb}
 use lib.ListN.{length, getD}
-use Rattle.std.proofs.shelf.Lists.{getD-default}
-use Rattle.std.specs.shelf.Lists.{Has}
-use Rattle.std.proofs.shelf.Tests.{cases-order, cases-bool, both-ways, not-true, and-parts, ltb-true, eqb-true, eq-eqb, ne-eqb, cond-true, cond-false}
-use Rattle.std.specs.declared.option.Option.{Option}
+use Rattle.std.proofs.shelf.Tests.{cases-bool, not-true, and-parts, ltb-true, eqb-true, eq-eqb, ne-eqb, cond-true, cond-false}
 use Rattle.std.specs.declared.option.Option.the-variants.{Some, None}
 use Rattle.dictionary.specs.declared.entry.Entry.{Entry}
-use Rattle.dictionary.specs.Dictionary.{dictionary, entryOf, find, rises, Listed, Unlisted, Ordered, constructed}
+use Rattle.dictionary.specs.Dictionary.{dictionary, entryOf, find, rises, Ordered, constructed}
 
 -- what rises above b is above b at each place
 pub above : (b : ℕ) (es : List Entry) → rises b es ≡ true → (k : ℕ) (d : Entry) → k < length es → b < getD es k d .tag

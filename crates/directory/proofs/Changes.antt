@@ -8,7 +8,7 @@ use lib.ListN.{length, take, drop}
 use lib.Seq.{paste}
 use borrow.Rule.Slice.PartMut.{putMid}
 use Rattle.std.specs.declared.option.Option.the-variants.{Some, None}
-use Rattle.std.proofs.shelf.Lists.{append-assoc, length-append, length-take-le, length-drop, take-append-drop, drop-drop, take-all}
+use Rattle.std.proofs.shelf.Lists.{length-append, length-take-le, length-drop, take-append-drop, drop-drop, take-all}
 use Rattle.directory.specs.declared.slot.Slot.{Slot}
 use Rattle.store.specs.Map.{Map, changed}
 use Rattle.entries.specs.Entries.{Entry, lookup, good}

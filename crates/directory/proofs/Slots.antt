@@ -1,7 +1,6 @@
 -- Laws of slots, and of a search among them.
 use mathlib.Core.Path.{_≡_, refl, sym, _∙_, ap, subst}
 use mathlib.Core.List.{List, [], _∷_, _++_}
-use mathlib.Core.Bool.{true, cond}
 use mathlib.Core.Logic.{⊎-elim}
 use Prim.Native.Nat.{ℕ, _+_, _-_, _≤_, _<_}
 use native.Mathlib.Omega.{arith}
@@ -39,9 +38,6 @@ cut-append (x ∷ xs) ys a b e =
 abbrev pub Passed : List Slot → ℕ → ℕ → ℕ → Type 0
 Passed ss t i at =
     (pre : List Slot) × (post : List Slot) × (ss ≡ pre ++ post) × (length pre ≡ i) × (at ≡ sizes pre) × (slot-at pre t ≡ None)
-
-pub passed-start : (ss : List Slot) (t : ℕ) → Passed ss t 0 0
-passed-start ss t = ([], ss, refl, refl, refl, refl)
 
 slot-at-append : (xs ys : List Slot) (t : ℕ) → slot-at xs t ≡ None → slot-at (xs ++ ys) t ≡ slot-at ys t
 slot-at-append [] ys t h = refl

@@ -1,13 +1,12 @@
 -- The entries of a list, one after the other.
 use mathlib.Core.Path.{_≡_, refl, sym, ap, _∙_}
 use mathlib.Core.Bool.{Bool, true, false, cond}
-use mathlib.Core.List.{List, [], _∷_, _++_}
-use Prim.Native.Nat.{ℕ, suc, _+_, _*_, _-_, _%_, _<_, _≤_}
+use mathlib.Core.List.{List, [], _∷_}
+use Prim.Native.Nat.{ℕ, _+_, _*_, _%_, _<_, _≤_}
 use native.Mathlib.Nat.{not-suc-le-zero, zero-add, add-zero, add-assoc}
 use native.Mathlib.Omega.{arith}
 use lib.Dec.{eqb, ltb, leb}
 use lib.ListN.{length}
-use Rattle.std.specs.Options.{mapped}
 use Rattle.std.specs.declared.option.Option.{Option}
 use Rattle.std.specs.declared.option.Option.the-variants.{Some, None}
 use Rattle.std.proofs.shelf.Lists.{nil-from-length}
@@ -15,7 +14,7 @@ use Rattle.std.proofs.shelf.Tests.{cond-true, cond-false, le-leb, lt-leb}
 use Rattle.std.specs.declared.result.Result.{Result}
 use Rattle.std.specs.declared.result.Result.the-variants.{Ok, Err}
 use Rattle.dol.specs.declared.size.DolFault.{DolFault}
-use Rattle.dol.specs.Dol.{Asked, Stage, first, second, third, size, more, entriesFrom, entries, total, sizeOf}
+use Rattle.dol.specs.Dol.{Asked, second, third, size, more, entriesFrom, entries, total, sizeOf}
 use Rattle.dol.specs.Steps.{Front, front, sized, secondByte, thirdByte}
 
 -- the entries of a list, from its first one

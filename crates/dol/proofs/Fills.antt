@@ -1,18 +1,17 @@
 -- The fill of a list's data, one entry after the other.
 use mathlib.Core.Path.{_≡_, refl, sym, ap, subst, _∙_}
-use mathlib.Core.Bool.{Bool, true, false, cond}
 use mathlib.Core.List.{List, [], _∷_, _++_, append-assoc}
 use Prim.Native.Nat.{ℕ, _+_, _-_, _<_, _≤_}
-use native.Mathlib.Nat.{zero-add, add-zero, add-assoc, not-suc-le-zero}
+use native.Mathlib.Nat.{zero-add, add-zero, add-assoc}
 use native.Mathlib.Omega.{arith}
-use borrow.Rule.Slice.PartMut.{putMid, postOf}
+use borrow.Rule.Slice.PartMut.{putMid}
 use lib.ListN.{length, take, drop, take-append-drop}
 use Rattle.std.specs.declared.option.Option.{Option}
 use Rattle.std.specs.declared.option.Option.the-variants.{Some, None}
 use Rattle.std.proofs.shelf.Parts.{take-putMid, drop-putMid}
 use Rattle.std.proofs.shelf.Edits.{length-between}
 use Rattle.store.specs.Map.{Map}
-use Rattle.dol.specs.Dol.{Asked, more, entries, total, valueFor, dataFor, dataOf, dolData, filled}
+use Rattle.dol.specs.Dol.{Asked, more, entries, total, dataFor, dataOf}
 use Rattle.dol.specs.Steps.{Room, Front, front}
 use Rattle.dol.proofs.Entries.{taken, entries-front}
 

@@ -1,8 +1,8 @@
 -- The laws of a list's data, and that what is written is that data.
-use mathlib.Core.Path.{_≡_, refl, sym, ap, subst, _∙_}
-use mathlib.Core.Bool.{Bool, true, false, cond, _||_}
+use mathlib.Core.Path.{_≡_, refl, sym, ap, _∙_}
+use mathlib.Core.Bool.{Bool, true, false, cond}
 use mathlib.Core.List.{List, [], _∷_, _++_}
-use Prim.Native.Nat.{ℕ, _+_, _-_, _<_, _≤_}
+use Prim.Native.Nat.{ℕ, _+_, _≤_}
 use native.Mathlib.Omega.{arith}
 use lib.Dec.{eqb, leb}
 use lib.ListN.{length, take, drop, replicate, length-append, length-take, length-drop}
@@ -17,7 +17,7 @@ use Rattle.dictionary.specs.declared.entry.Entry.{Entry}
 use Rattle.dictionary.specs.declared.entry.Format.{Format}
 use Rattle.dictionary.specs.declared.entry.Format.the-variants.{Numeric, CompressedNumeric, Alphanumeric, AlphanumericSpecial, Binary}
 use Rattle.dictionary.specs.Dictionary.{entryOf, constructed}
-use Rattle.dictionary.proofs.Order.{Sound, entry-sound}
+use Rattle.dictionary.proofs.Order.{entry-sound}
 use Rattle.dol.specs.declared.size.DolFault.{DolFault}
 use Rattle.dol.specs.Fit.{fromLeft, fromRight, fitted}
 use Rattle.dol.specs.Dol.{Asked, entries, total, valueFor, dataFor, dataOf, within, dolData, sizeOf, filled}

@@ -1,11 +1,11 @@
 -- What writes to two neighbouring parts of a slice leave.
-use mathlib.Core.Path.{_≡_, refl, sym, ap, _∙_}
+use mathlib.Core.Path.{_≡_, sym, ap, _∙_}
 use mathlib.Core.Logic.{⊎-elim}
-use mathlib.Core.List.{List, [], _∷_, _++_, append-nil}
-use Prim.Native.Nat.{ℕ, min, _+_, _-_, _<_, _≤_}
+use mathlib.Core.List.{List, [], _++_, append-nil}
+use Prim.Native.Nat.{ℕ, min, _+_, _-_, _≤_}
 use native.Mathlib.Omega.{arith}
 use borrow.Rule.Slice.PartMut.{putMid, postOf}
-use lib.ListN.{length, getD, take, drop, replicate, length-append, length-drop}
+use lib.ListN.{length, take, drop, replicate, length-append, length-drop}
 use Rattle.std.proofs.shelf.Lists.{take-at, drop-all, take-all, take-rest, length-take-le, length-replicate}
 use Rattle.std.proofs.shelf.Tests.{cases-lt}
 use Rattle.dol.specs.Fit.{fromLeft, fromRight}

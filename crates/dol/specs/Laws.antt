@@ -2,14 +2,14 @@
 use mathlib.Core.Path.{_≡_}
 use mathlib.Core.Bool.{Bool, true, false, _||_}
 use mathlib.Core.List.{List, [], _∷_, _++_}
-use Prim.Native.Nat.{ℕ, _+_, _<_}
+use Prim.Native.Nat.{ℕ}
 use lib.Dec.{eqb}
 use lib.ListN.{length, take, drop, replicate}
 use Rattle.std.specs.declared.option.Option.{Option}
 use Rattle.std.specs.declared.option.Option.the-variants.{Some, None}
 use Rattle.store.specs.Map.{Map}
 use Rattle.dictionary.specs.Dictionary.{entryOf, constructed}
-use Rattle.dol.specs.Dol.{Asked, valueFor, entries, total, dataOf, dolData}
+use Rattle.dol.specs.Dol.{Asked, valueFor, entries, total, dolData}
 
 -- The data has exactly the sum of the lengths asked for.
 abbrev pub Sized : List ℕ → Type 0

@@ -1,7 +1,7 @@
 -- Laws of entries: one of them cut out, replaced or added at the end, and what their map keeps.
 use mathlib.Core.Path.{_≡_, refl, sym, _∙_, ap, subst}
 use mathlib.Core.List.{List, [], _∷_, _++_}
-use mathlib.Core.Bool.{Bool, true, false, not, _&&_}
+use mathlib.Core.Bool.{true, false, not, _&&_}
 use mathlib.Core.Logic.{⊎-elim}
 use Prim.Native.Nat.{ℕ, _+_, _-_, _≤_, _<_}
 use native.Mathlib.Omega.{arith}
@@ -15,7 +15,7 @@ use Rattle.std.specs.Options.{isSome, mapped, Cases}
 use Rattle.std.proofs.shelf.Lists.{length-take-le, append-assoc, length-append, take-at, drop-at, take-take, drop-take, length-drop, take-append-drop}
 use Rattle.std.proofs.shelf.Edits.{take-paste}
 use Rattle.std.proofs.shelf.Tests.{and-parts, and-from, not-true, not-from-false, ltb-true, leb-true, lt-ltb, le-leb, cases-eq}
-use Rattle.store.specs.Map.{changed, empty, one, count}
+use Rattle.store.specs.Map.{changed, one, count}
 use Rattle.store.specs.Maps.{changed-swap, changed-here, changed-other, changed-is, changed-changed, count-changed, count-empty}
 use Rattle.entries.specs.Entries.{Entry, lookup, good}
 

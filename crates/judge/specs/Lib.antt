@@ -7,6 +7,7 @@ pub mod Judge
 pub mod Verdict
 pub mod Walk
 pub mod Accepted
+pub mod Held
 pub mod Reads
 pub mod Alone
 pub mod Worked

@@ -4,7 +4,7 @@ use mathlib.Core.List.{List, [], _∷_}
 use Prim.Native.Nat.{ℕ, zero, suc}
 use lib.ListN.{length}
 use Rattle.tlv.specs.declared.place.Place.{Place}
-use Rattle.tlv.specs.Objects.{Seen, end, primitive, constructed, Next, fault, seen, nextAt}
+use Rattle.tlv.specs.Objects.{end, primitive, constructed, Next, fault, seen, nextAt}
 use Rattle.tlv.specs.Series.{place}
 use Rattle.judge.specs.declared.kind.TextKind.{TextKind}
 use Rattle.judge.specs.Kinds.{own}

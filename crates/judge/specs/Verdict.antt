@@ -14,7 +14,8 @@ use Rattle.judge.specs.declared.fault.ObjectFault.{ObjectFault}
 use Rattle.judge.specs.declared.fault.ObjectFault.the-variants as fault
 use Rattle.judge.specs.declared.kind.TextKind.{TextKind}
 use Rattle.judge.specs.Faults.{faultNumber}
-use Rattle.judge.specs.Objects.{Object, plain, places, objectsOf}
+use Rattle.judge.specs.Kinds.{own}
+use Rattle.judge.specs.Objects.{Object, plain, plains, places, objectsOf}
 use Rattle.judge.specs.Rules.{breaks}
 use Rattle.judge.specs.Judge.{judged}
 
@@ -53,8 +54,9 @@ abbrev pub TextVerdict : TextKind → Map → List ℕ → Reading → Result (U
 TextVerdict k m text (wrong kind at) r = r ≡ Err (fault.Text (record { kind = kind; at = at }))
 TextVerdict k m text (found ps) r = ObjectsVerdict k m text (objectsOf k text ps) r
 
--- Every text is judged by the rules: the judgement is the one verdict, and a text whose objects all keep the rules is
--- accepted.
+-- Every text is judged by the rules: the judgement is the one verdict, a text whose objects all keep the rules is
+-- accepted, and an own text that is accepted has primitive objects only.
 pub record JudgedByRules (k : TextKind) (m : Map) (text : List ℕ) : Type 0 where
   pub verdict : TextVerdict k m text (meaning text) (judged k m text)
   pub accepts : (ps : List Place) → meaning text ≡ found ps → AllKeep k m text (objectsOf k text ps) → judged k m text ≡ Ok tt
+  pub primitive : (ps : List Place) → own k ≡ true → meaning text ≡ found ps → judged k m text ≡ Ok tt → objectsOf k text ps ≡ plains ps

@@ -1,6 +1,6 @@
 -- The judgement as the code goes about it: over the places of the primitive objects, with the first constructed object
 -- of an own text beside them.
-use mathlib.Core.Bool.{Bool, true, false, cond}
+use mathlib.Core.Bool.{Bool, false, cond}
 use mathlib.Core.List.{List, [], _∷_, _++_}
 use Prim.Native.Nat.{ℕ}
 use lib.Dec.{ltb}
@@ -11,7 +11,6 @@ use Rattle.std.specs.declared.result.Result.{Result}
 use Rattle.std.specs.declared.result.Result.the-variants.{Ok, Err}
 use Rattle.tlv.specs.declared.place.Place.{Place}
 use Rattle.store.specs.Map.{Map}
-use Rattle.judge.specs.declared.fault.ObjectFaultKind.{ObjectFaultKind}
 use Rattle.judge.specs.declared.fault.ObjectFaultKind.the-variants.{UnknownTag}
 use Rattle.judge.specs.declared.fault.ObjectFault.{ObjectFault}
 use Rattle.judge.specs.declared.fault.ObjectFault.the-variants as fault

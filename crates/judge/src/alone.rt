@@ -59,6 +59,7 @@ impl ReadStore for NothingHeld as NothingHeldReadStore {
 // How a text of that kind is judged where nothing is held.
 pub fn judge_alone(kind: TextKind, text: &[u8], list: &mut [Place]) -> Result<usize, JudgeRefusal>
     ensures answer { λ r. ⌜ answered r ≡ judgement (length (now (list .entry))) kind empty (now (text .entry)) ⌝ }
+    ensures within { λ r. ⌜ made r (λ n. n ≤ length (now (list .exit))) ⌝ }
     ensures places { λ r. ⌜ made r (λ n. (n ≤ 64) × (meaning (now (text .entry)) ≡ found (take n (now (list .exit))))) ⌝ }
 {
     judge_text(&NothingHeld {}, kind, text, list)

@@ -1,5 +1,4 @@
 // Judging a text.
-ghost use mathlib.Core.Bool.{true};
 ghost use mathlib.Core.Path.{_≡_};
 ghost use mathlib.Core.List.{[]};
 ghost use Prim.Native.Nat.{_≤_};
@@ -7,13 +6,13 @@ ghost use lib.ListN.{length, take};
 ghost use Rattle.std.specs.Vec.{made};
 ghost use Rattle.tlv.specs.Series.{found, meaning};
 ghost use Rattle.store.specs.Map.{Map};
-ghost use Rattle.judge.specs.Kinds.{own};
 ghost use Rattle.judge.specs.Objects.{plain, outermost};
 ghost use Rattle.judge.specs.Rules.{named, breaks, lowest};
 ghost use Rattle.judge.specs.Judge.{judged, judgement, answered};
 ghost use Rattle.judge.specs.Reads.{ReadFor};
 ghost use Rattle.judge.specs.Verdict.{JudgedByRules};
 ghost use Rattle.judge.specs.Accepted.{AllFit};
+ghost use Rattle.judge.specs.Held.{SameFor};
 ghost use Rattle.judge.specs.Walk.{firstBuilt, builtIn, standsBefore, unknownAt, walked};
 use crate::fault::JudgeRefusal;
 use crate::fault::JudgeRefusalFromObjectFault;
@@ -191,7 +190,7 @@ fn judge_places<S: ReadStore>(
 fn read_places(text: &[u8], list: &mut [Place]) -> Result<usize, JudgeRefusal>
     ensures read { λ r. ⌜ ReadFor (length (now (list .entry))) (now (text .entry)) (now (list .exit)) r ⌝ }
     ensures rules { λ _. ⌜ ((k : TextKind) (m : Map) → JudgedByRules k m (now (text .entry))) ⌝ }
-    ensures held { λ _. ⌜ ((k : TextKind) (m n : Map) → own k ≡ true → judged k m (now (text .entry)) ≡ judged k n (now (text .entry))) ⌝ }
+    ensures held { λ _. ⌜ ((k : TextKind) (m n : Map) → SameFor k m n → judged k m (now (text .entry)) ≡ judged k n (now (text .entry))) ⌝ }
 {
     Ok(read_text(text, list)?)
 }
@@ -206,10 +205,11 @@ pub fn judge_text<S: ReadStore>(
     list: &mut [Place],
 ) -> Result<usize, JudgeRefusal>
     ensures answer { λ r. ⌜ answered r ≡ judgement (length (now (list .entry))) kind (S·ReadStore .held (now (store .entry))) (now (text .entry)) ⌝ }
+    ensures within { λ r. ⌜ made r (λ n. n ≤ length (now (list .exit))) ⌝ }
     ensures places { λ r. ⌜ made r (λ n. (n ≤ 64) × (meaning (now (text .entry)) ≡ found (take n (now (list .exit))))) ⌝ }
     ensures accepted { λ r. ⌜ made r (λ n. AllFit kind (S·ReadStore .held (now (store .entry))) (now (text .entry)) [] (take n (now (list .exit)))) ⌝ }
     ensures rules { λ _. ⌜ JudgedByRules kind (S·ReadStore .held (now (store .entry))) (now (text .entry)) ⌝ }
-    ensures held { λ _. ⌜ ((m n : Map) → own kind ≡ true → judged kind m (now (text .entry)) ≡ judged kind n (now (text .entry))) ⌝ }
+    ensures held { λ _. ⌜ ((m n : Map) → SameFor kind m n → judged kind m (now (text .entry)) ≡ judged kind n (now (text .entry))) ⌝ }
 {
     let count = read_places(text, list)?;
     judge_places(store, kind, text, &list[0..count])?;

@@ -1,15 +1,14 @@
 -- Clearing entry by entry leaves what the definition says. Assumes nothing.
 use mathlib.Core.Path.{_≡_, refl, sym, ap, _∙_, fun-ext}
-use mathlib.Core.Bool.{Bool, true, false, cond, _&&_}
+use mathlib.Core.Bool.{true}
 use mathlib.Core.Logic.{⊎-elim}
 use mathlib.Core.List.{List, [], _∷_}
-use Prim.Native.Nat.{ℕ, _+_, _<_, _≤_}
+use Prim.Native.Nat.{ℕ, _+_, _<_}
 use native.Mathlib.Omega.{arith}
 use lib.Dec.{eqb, ltb}
 use lib.ListN.{length, getD, drop}
 use Rattle.std.proofs.shelf.Lists.{at-drop-more}
 use Rattle.std.proofs.shelf.Tests.{cases-bool, eqb-true, eqb-false, cond-true, cond-false, and-parts}
-use Rattle.std.specs.declared.option.Option.{Option}
 use Rattle.std.specs.declared.option.Option.the-variants.{Some, None}
 use Rattle.dictionary.specs.declared.entry.Entry.{Entry}
 use Rattle.dictionary.specs.declared.entry.Writer.{Writer}
@@ -17,7 +16,7 @@ use Rattle.dictionary.specs.declared.entry.Writer.the-variants.{Configuration, 
 use Rattle.dictionary.specs.Dictionary.{dictionary, entryOf, find, rises}
 use Rattle.dictionary.proofs.Order.{above, find-none, dictionary-rises}
 use Rattle.store.specs.Map.{Map, changed}
-use Rattle.store.specs.Maps.{changed-here, changed-other, changed-is}
+use Rattle.store.specs.Maps.{changed-here, changed-other}
 use Rattle.judge.specs.Writers.{byWriter}
 use Rattle.keeping.specs.Clearing.{stays, cleared}
 use Rattle.keeping.specs.Steps.{clearedOne, clearedAll}
@@ -60,17 +59,3 @@ all-cleared m = fun-ext (λ t. all-at 0 dictionary dictionary-rises m t)
 
 pub cleared-more : (es : List Entry) (i : ℕ) (d : Entry) → i < length es → (m : Map) → clearedAll (drop i es) m ≡ clearedAll (drop (i + 1) es) (clearedOne m (getD es i d))
 cleared-more es i d h m = at-drop-more (λ xs. clearedAll xs m) es i d h
-
--- a tag that is not held is not removed
-pub unheld : (m : Map) (e : Entry) → m (e .tag) ≡ None → m ≡ clearedOne m e
-unheld m e h = by (e .writer)
-  where
-    same : m ≡ changed m (e .tag) None
-    same = changed-is m m (e .tag) None h (λ k ne. refl)
-
-    by : (w : Writer) → m ≡ byWriter m (changed m (e .tag) None) (changed m (e .tag) None) (changed m (e .tag) None) (changed m (e .tag) None) w
-    by Configuration = refl
-    by TerminalBeforeBegin = same
-    by Terminal = same
-    by Card = same
-    by Reader = same

@@ -1,18 +1,16 @@
 -- Storing the objects of a text one after the other. Assumes nothing.
-use mathlib.Core.Path.{_≡_, refl, sym, ap, _∙_, subst, fun-ext}
-use mathlib.Core.Bool.{Bool, true, false, not, cond, _&&_, _||_}
-use mathlib.Core.Logic.{⊎-elim}
-use mathlib.Core.List.{List, [], _∷_, _++_}
-use Prim.Native.Nat.{ℕ, zero, suc, _+_, _<_, _≤_}
+use mathlib.Core.Path.{_≡_, refl, sym, ap, _∙_, subst}
+use mathlib.Core.Bool.{not}
+use mathlib.Core.List.{List, [], _∷_}
+use Prim.Native.Nat.{ℕ, _+_, _<_, _≤_}
 use native.Mathlib.Omega.{arith}
-use lib.Dec.{eqb, leb, ltb}
-use lib.ListN.{length, getD, take, drop}
-use Rattle.std.proofs.shelf.Lists.{at-drop-more, at-drop-all, drop-more}
+use lib.ListN.{length, getD, drop}
+use Rattle.std.proofs.shelf.Lists.{at-drop-more, drop-more}
 use Rattle.std.proofs.shelf.Tests.{cond-false, le-ltb, or-from}
 use Rattle.std.specs.declared.option.Option.{Option}
 use Rattle.std.specs.declared.option.Option.the-variants.{Some, None}
 use Rattle.std.specs.declared.result.Result.{Result}
-use Rattle.std.specs.declared.result.Result.the-variants.{Ok, Err}
+use Rattle.std.specs.declared.result.Result.the-variants.{Ok}
 use Rattle.dictionary.specs.declared.entry.Entry.{Entry}
 use Rattle.dictionary.specs.Dictionary.{entryOf}
 use Rattle.dictionary.proofs.Order.{entry-sound}

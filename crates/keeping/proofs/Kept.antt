@@ -1,17 +1,16 @@
 -- Storing an accepted text keeps the room. Assumes nothing.
 use mathlib.Core.Path.{_≡_, refl, sym, ap, _∙_, subst}
-use mathlib.Core.Bool.{Bool, true, false, not, cond, _&&_}
+use mathlib.Core.Bool.{Bool, true, false, cond}
 use mathlib.Core.Logic.{⊎-elim}
 use mathlib.Core.List.{List, [], _∷_, _++_}
-use Prim.Native.Nat.{ℕ, zero, suc, _+_, _<_, _≤_}
+use Prim.Native.Nat.{ℕ, suc, _+_, _<_, _≤_}
 use native.Mathlib.Omega.{arith}
 use lib.Dec.{eqb}
-use lib.ListN.{length, getD, take}
+use lib.ListN.{length, getD}
 use Rattle.std.specs.Vec.{Every}
 use Rattle.std.proofs.shelf.Tests.{cases-bool, eqb-true, cond-false, cond-true, false≢true, both-ways}
 use Rattle.std.specs.declared.option.Option.{Option}
 use Rattle.std.specs.declared.option.Option.the-variants.{Some, None}
-use Rattle.std.specs.declared.result.Result.the-variants.{Ok, Err}
 use Rattle.dictionary.specs.declared.entry.Entry.{Entry}
 use Rattle.dictionary.specs.declared.entry.Format.the-variants.{Binary}
 use Rattle.dictionary.specs.declared.entry.Writer.{Writer}
@@ -66,15 +65,15 @@ every-from : {X : Type 0} (P : X → Type 0) (xs : List X) → ((i : ℕ) (d : X
 every-from P [] h = tt
 every-from P (x ∷ xs) h = (h 0 x (omega arith), every-from P xs (λ i d l. h (suc i) d (omega arith)))
 
-abbrev Listed : Entry → Type 0
+abbrev pub Listed : Entry → Type 0
 Listed e = entryOf (e .tag) ≡ Some e
 
-all-listed : Every Listed dictionary
+pub all-listed : Every Listed dictionary
 all-listed = every-from Listed dictionary (λ i d l. entry-at i d (getD dictionary i d .tag) l refl)
 
 -- sums over untouched tags
 module _ (m n : Map) where
-  parts-same : (k : TextKind) (es : List Entry) → Every Listed es → ((e : Entry) → Listed e → writes k (e .writer) ≡ true → n (e .tag) ≡ m (e .tag)) → partsOf k es n ≡ partsOf k es m
+  pub parts-same : (k : TextKind) (es : List Entry) → Every Listed es → ((e : Entry) → Listed e → writes k (e .writer) ≡ true → n (e .tag) ≡ m (e .tag)) → partsOf k es n ≡ partsOf k es m
   parts-same k [] l h = refl
   parts-same k (e ∷ es) l h =
       let a : partOf k n e ≡ partOf k m e = ⊎-elim
@@ -88,7 +87,7 @@ terminal-same : (b c : Bool) (es : List Entry) (m : Map) → partsOf (TerminalWr
 terminal-same b c [] m = refl
 terminal-same b c (e ∷ es) m = ap (λ x. partOf (TerminalWrite b) m e + x) (terminal-same b c es m)
 
-reader-none : (k : TextKind) → writes k Reader ≡ false
+pub reader-none : (k : TextKind) → writes k Reader ≡ false
 reader-none kind.Configuration = refl
 reader-none (TerminalWrite b) = refl
 reader-none CardAnswer = refl
@@ -100,15 +99,15 @@ module _ (k : TextKind) (m : Map) (text : List ℕ) (ps : List Place) (a : AllFi
   unknown-stays : (t : ℕ) → entryOf t ≡ None → stored text ps m t ≡ m t
   unknown-stays t known = stays t None known (λ e q. let z : _≡_ {A = ℕ} 0 1 = cc in absurd (omega arith))
 
-  listed-stays : (e : Entry) → Listed e → writes k (e .writer) ≡ false → stored text ps m (e .tag) ≡ m (e .tag)
-  listed-stays e l w = stays (e .tag) (Some e) l (λ e′ q. let same : e ≡ e′ = cc in ap (λ y. writes k (y .writer)) (sym same) ∙ w)
+  pub stays-for : (t : ℕ) (e : Entry) → entryOf t ≡ Some e → writes k (e .writer) ≡ false → stored text ps m t ≡ m t
+  stays-for t e known w = stays t (Some e) known (λ e′ q. let same : e ≡ e′ = cc in ap (λ y. writes k (y .writer)) (sym same) ∙ w)
 
   other-total : (j : TextKind) → ((w : Writer) → writes j w ≡ true → writes k w ≡ false) → writerTotal j (stored text ps m) ≡ writerTotal j m
   unfolding writerTotal
-  other-total j apart = parts-same m (stored text ps m) j dictionary all-listed (λ e l w. listed-stays e l (apart (e .writer) w))
+  other-total j apart = parts-same m (stored text ps m) j dictionary all-listed (λ e l w. stays-for (e .tag) e l (apart (e .writer) w))
 
-  pub reader-same : (t : ℕ) (e : Entry) → entryOf t ≡ Some e → e .writer ≡ Reader → stored text ps m t ≡ m t
-  reader-same t e known w = stays t (Some e) known (λ e′ q. let same : e ≡ e′ = cc in ap (λ y. writes k (y .writer)) (sym same) ∙ ap (writes k) w ∙ reader-none k)
+  reader-same : (t : ℕ) (e : Entry) → entryOf t ≡ Some e → e .writer ≡ Reader → stored text ps m t ≡ m t
+  reader-same t e known w = stays-for t e known (ap (writes k) w ∙ reader-none k)
 
 apart-go : (w : Writer) → writes CardAnswer w ≡ true → writes kind.Configuration w ≡ false
 apart-go Configuration h = absurd (false≢true h)

@@ -5,3 +5,6 @@ pub mod Sharing
 pub mod Clearings
 pub mod Rooms
 pub mod Kept
+pub mod Owns
+pub mod Laws
+pub mod Taken

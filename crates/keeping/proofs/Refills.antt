@@ -1,25 +1,23 @@
 -- An accepted text whose tags are removed first can be put, and gives the same map. Assumes nothing.
-use mathlib.Core.Path.{_≡_, refl, sym, ap, _∙_, subst, fun-ext}
-use mathlib.Core.Bool.{Bool, true, false, not, cond, _&&_, _||_}
+use mathlib.Core.Path.{_≡_, refl, sym, ap, _∙_, fun-ext}
+use mathlib.Core.Bool.{Bool, true, false, not, cond, _&&_}
 use mathlib.Core.Logic.{⊎-elim}
 use mathlib.Core.List.{List, [], _∷_, _++_}
-use Prim.Native.Nat.{ℕ, zero, suc, _+_, _<_, _≤_}
+use Prim.Native.Nat.{ℕ, _+_, _<_, _≤_}
 use native.Mathlib.Omega.{arith}
-use lib.Dec.{eqb, leb, ltb}
+use lib.Dec.{eqb, leb}
 use lib.ListN.{length}
-use Rattle.std.proofs.shelf.Tests.{cases-bool, cases-eq, eqb-true, eqb-false, eq-eqb, ne-eqb, cond-true, cond-false, or-cases, or-from, or-left, or-right, or-parts, and-parts, leb-true, false≢true}
+use Rattle.std.proofs.shelf.Tests.{eqb-true, eqb-false, eq-eqb, cond-true, or-cases, or-from, or-left, or-right, or-parts, and-parts, leb-true, false≢true}
 use Rattle.std.specs.declared.option.Option.{Option}
 use Rattle.std.specs.declared.option.Option.the-variants.{Some, None}
-use Rattle.std.specs.declared.result.Result.{Result}
-use Rattle.std.specs.declared.result.Result.the-variants.{Ok, Err}
 use Rattle.dictionary.specs.declared.entry.Entry.{Entry}
 use Rattle.dictionary.specs.Dictionary.{entryOf}
 use Rattle.dictionary.specs.Checks.{fitsLength}
 use Rattle.dictionary.proofs.Order.{entry-sound}
 use Rattle.tlv.specs.declared.place.Place.{Place}
 use Rattle.tlv.specs.Values.{valueAt}
-use Rattle.store.specs.Map.{Map, changed}
-use Rattle.store.specs.Maps.{changed-here, changed-other}
+use Rattle.store.specs.Map.{Map}
+use Rattle.store.specs.Maps.{changed-other}
 use Rattle.judge.specs.declared.kind.TextKind.{TextKind}
 use Rattle.judge.specs.Rules.{named}
 use Rattle.judge.specs.Accepted.{FitsBy, AllFit}

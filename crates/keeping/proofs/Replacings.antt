@@ -1,13 +1,13 @@
 -- What is held after a text without a fault was stored: its objects, and besides them what was held. Assumes nothing.
-use mathlib.Core.Path.{_≡_, refl, sym, ap, _∙_, subst}
-use mathlib.Core.Bool.{Bool, true, false, cond, _||_}
+use mathlib.Core.Path.{_≡_, refl, sym, ap, _∙_}
+use mathlib.Core.Bool.{true, false}
 use mathlib.Core.Logic.{⊎-elim}
 use mathlib.Core.List.{List, [], _∷_, _++_}
 use Prim.Native.Nat.{ℕ}
 use native.Mathlib.Omega.{arith}
 use lib.Dec.{eqb}
 use Rattle.std.specs.Vec.{Every}
-use Rattle.std.proofs.shelf.Tests.{cases-bool, both-ways, cond-false, eqb-true, eqb-false, eq-eqb, ne-eqb, or-cases, or-left, or-right, or-parts}
+use Rattle.std.proofs.shelf.Tests.{both-ways, cond-false, eqb-false, eq-eqb, ne-eqb, or-cases, or-left, or-right, or-parts}
 use Rattle.std.specs.declared.option.Option.{Option}
 use Rattle.std.specs.declared.option.Option.the-variants.{Some, None}
 use Rattle.dictionary.specs.declared.entry.Entry.{Entry}

@@ -7,7 +7,7 @@ use Prim.Native.Nat.{ℕ, zero, suc, _+_, _<_, _≤_}
 use native.Mathlib.Omega.{arith}
 use lib.Dec.{eqb, ltb}
 use lib.ListN.{length}
-use Rattle.std.proofs.shelf.Tests.{cases-eq, cases-lt, cases-bool, eqb-true, eqb-false, ne-eqb, cond-true, cond-false, and-parts, ltb-true}
+use Rattle.std.proofs.shelf.Tests.{cases-eq, cases-lt, ne-eqb, cond-false, and-parts, ltb-true}
 use Rattle.std.specs.declared.option.Option.{Option}
 use Rattle.std.specs.declared.option.Option.the-variants.{Some, None}
 use Rattle.dictionary.specs.declared.entry.Entry.{Entry}
@@ -25,7 +25,7 @@ use Rattle.judge.specs.Writers.{byWriter}
 use Rattle.judge.specs.Kinds.{writes}
 use Rattle.keeping.specs.Clearing.{stays, cleared}
 use Rattle.keeping.specs.Steps.{Holds}
-use Rattle.keeping.specs.Shares.{partOf, partsOf, writerTotal, shareOf}
+use Rattle.keeping.specs.Shares.{partsOf, writerTotal}
 use Rattle.keeping.specs.Room.{verificationResults, errorIndication, neededObjects, neededBytes, Roomy}
 
 -- a sum over the entries' tags

@@ -11,5 +11,6 @@ abbrev pub stays : {X : Type 0} → Option X → Option Entry → Option X
 stays o None = o
 stays o (Some e) = byWriter o None None None None (e .writer)
 
+-- so at each tag; an unknown tag holds what it held
 abbrev pub cleared : Map → Map
 cleared m = λ t. stays (m t) (entryOf t)

@@ -15,6 +15,7 @@ abbrev pub storedBy : List ℕ → Map → Place → Option Entry → Map
 storedBy text m p None = m
 storedBy text m p (Some e) = changed m (p .tag) (Some (valueAt text p))
 
+-- by the entry of its tag
 abbrev pub storedOne : List ℕ → Map → Place → Map
 storedOne text m p = storedBy text m p (entryOf (p .tag))
 
@@ -37,6 +38,7 @@ abbrev pub removedBy : Map → Place → Option Entry → Map
 removedBy m p None = m
 removedBy m p (Some e) = changed m (p .tag) None
 
+-- by the entry of its tag
 abbrev pub removedOne : Map → Place → Map
 removedOne m p = removedBy m p (entryOf (p .tag))
 

@@ -8,9 +8,11 @@ use Rattle.store.specs.Map.{Map}
 use Rattle.judge.specs.Writers.{byWriter}
 use Rattle.judge.specs.Rules.{listedAnd}
 
+-- the configuration and the terminal are our own writers
 abbrev pub ownWriter : Writer → Bool
 ownWriter w = byWriter true true true false false w
 
+-- a tag of one of them
 abbrev pub ownTag : ℕ → Bool
 ownTag t = listedAnd (entryOf t) (λ e. ownWriter (e .writer))
 

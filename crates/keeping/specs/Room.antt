@@ -10,17 +10,18 @@ use Rattle.judge.specs.declared.kind.TextKind.{TextKind}
 use Rattle.keeping.specs.declared.shares.Shares.{Shares}
 use Rattle.keeping.specs.Shares.{writerTotal, shareOf}
 
--- the reader's own two objects
+-- the tags of the reader's own two objects: Terminal Verification Results, and Error Indication
 abbrev pub verificationResults : ℕ
 verificationResults = 0x95
 
 abbrev pub errorIndication : ℕ
 errorIndication = 0xDF_8115
 
+-- a tag of one of the two
 abbrev pub readerTag : ℕ → Bool
 readerTag t = eqb t verificationResults || eqb t errorIndication
 
--- how many bytes they have
+-- how many bytes the two have
 abbrev pub readerLength : ℕ → ℕ
 readerLength t = cond (eqb t verificationResults) 5 (cond (eqb t errorIndication) 6 0)
 

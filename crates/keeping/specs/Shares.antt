@@ -1,5 +1,5 @@
 -- How many value bytes a writer has.
-use mathlib.Core.Bool.{Bool, cond}
+use mathlib.Core.Bool.{cond}
 use mathlib.Core.List.{List, [], _∷_}
 use Prim.Native.Nat.{ℕ, _+_}
 use Rattle.dictionary.specs.declared.entry.Entry.{Entry}
@@ -14,6 +14,7 @@ use Rattle.keeping.specs.declared.shares.Shares.{Shares}
 abbrev pub partOf : TextKind → Map → Entry → ℕ
 partOf k m e = cond (writes k (e .writer)) (size (m (e .tag))) 0
 
+-- the sum over these entries
 abbrev pub partsOf : TextKind → List Entry → Map → ℕ
 partsOf k [] m = 0
 partsOf k (e ∷ es) m = partOf k m e + partsOf k es m

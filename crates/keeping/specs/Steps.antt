@@ -23,11 +23,12 @@ use Rattle.keeping.specs.declared.refusal.TakeRefusal.{TakeRefusal}
 use Rattle.keeping.specs.Keeping.{storedOne, stored, placesRead}
 use Rattle.keeping.specs.Shares.{writerTotal, shareOf}
 
--- each known object in turn is short enough, and its tag is not held when its turn comes
+-- a known object is short enough, and its tag is not held
 abbrev pub FreshBy : List ℕ → Map → Place → Option Entry → Type 0
 FreshBy text m p None = Unit {0}
 FreshBy text m p (Some e) = (m (p .tag) ≡ None) × (length (valueAt text p) ≤ 255)
 
+-- so is each of these in turn, when its turn comes
 abbrev pub Fresh : List ℕ → List Place → Map → Type 0
 Fresh text [] m = Unit {0}
 Fresh text (p ∷ ps) m = FreshBy text m p (entryOf (p .tag)) × Fresh text ps (storedOne text m p)
@@ -53,14 +54,16 @@ pub record Weighed (s : Shares) (k : TextKind) (m : Map) (text : List ℕ) (ps :
   pub fits : AllFit k m text [] ps
   pub share : writerTotal k (stored text ps m) ≤ shareOf s k
 
+-- the answer without the number of places
 abbrev pub answered : Result ℕ TakeRefusal → Result (Unit {0}) TakeRefusal
 answered (Ok n) = Ok tt
 answered (Err e) = Err e
 
--- clearing, entry by entry
+-- one entry cleared: its tag removed, unless it is the configuration's
 abbrev pub clearedOne : Map → Entry → Map
 clearedOne m e = byWriter m (changed m (e .tag) None) (changed m (e .tag) None) (changed m (e .tag) None) (changed m (e .tag) None) (e .writer)
 
+-- these entries cleared, one after the other
 abbrev pub clearedAll : List Entry → Map → Map
 clearedAll [] m = m
 clearedAll (e ∷ es) m = clearedAll es (clearedOne m e)

@@ -1,5 +1,6 @@
 // Removing all but the configuration.
 ghost use mathlib.Core.Path.{_≡_};
+ghost use Rattle.dictionary.specs.Dictionary.{dictionary};
 ghost use Rattle.keeping.specs.Clearing.{cleared};
 ghost use Rattle.keeping.specs.Room.{Roomy};
 ghost use Rattle.keeping.specs.Steps.{clearedOne};
@@ -23,14 +24,23 @@ fn clear_entry<S: WriteStore>(store: &mut S, entry: &Entry)
     }
 }
 
+// Removes the objects of all entries of the dictionary but the configuration's.
+fn clear_entries<S: WriteStore>(store: &mut S, entries: &[Entry])
+    requires { ⌜ now entries ≡ dictionary ⌝ }
+    ensures after { λ _. ⌜ S·ReadStore .held (now (store .exit)) ≡ cleared (S·ReadStore .held (now (store .entry))) ⌝ }
+    ensures roomy { λ _. ⌜ ((s : Shares) → Roomy s (S·ReadStore .objects (now (store .entry))) (S·ReadStore .bytes (now (store .entry))) (S·ReadStore .held (now (store .entry))) → Roomy s (S·ReadStore .objects (now (store .exit))) (S·ReadStore .bytes (now (store .exit))) (S·ReadStore .held (now (store .exit)))) ⌝ }
+    ensures limits { λ _. ⌜ S·ReadStore .objects (now (store .exit)) ≡ S·ReadStore .objects (now (store .entry)) ⌝ ∗ ⌜ S·ReadStore .bytes (now (store .exit)) ≡ S·ReadStore .bytes (now (store .entry)) ⌝ }
+{
+    for entry in entries {
+        clear_entry(store, entry);
+    }
+}
+
 // Removes the terminal's, the card's and the reader's objects; the configuration's stay.
 pub fn remove_run<S: WriteStore>(store: &mut S)
     ensures after { λ _. ⌜ S·ReadStore .held (now (store .exit)) ≡ cleared (S·ReadStore .held (now (store .entry))) ⌝ }
     ensures roomy { λ _. ⌜ ((s : Shares) → Roomy s (S·ReadStore .objects (now (store .entry))) (S·ReadStore .bytes (now (store .entry))) (S·ReadStore .held (now (store .entry))) → Roomy s (S·ReadStore .objects (now (store .exit))) (S·ReadStore .bytes (now (store .exit))) (S·ReadStore .held (now (store .exit)))) ⌝ }
     ensures limits { λ _. ⌜ S·ReadStore .objects (now (store .exit)) ≡ S·ReadStore .objects (now (store .entry)) ⌝ ∗ ⌜ S·ReadStore .bytes (now (store .exit)) ≡ S·ReadStore .bytes (now (store .entry)) ⌝ }
 {
-    let table = all();
-    for entry in table {
-        clear_entry(store, entry);
-    }
+    clear_entries(store, all());
 }

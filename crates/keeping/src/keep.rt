@@ -2,8 +2,10 @@
 ghost use mathlib.Core.Path.{_≡_};
 ghost use mathlib.Core.List.{[]};
 ghost use Rattle.dictionary.specs.Dictionary.{entryOf};
+ghost use Rattle.judge.specs.declared.kind.TextKind.the-variants.{CardAnswer};
 ghost use Rattle.judge.specs.Accepted.{AllFit};
 ghost use Rattle.keeping.specs.Keeping.{stored, storedText, storedOne, removed, removedOne};
+ghost use Rattle.keeping.specs.Own.{SameOwn};
 ghost use Rattle.keeping.specs.Replacing.{Replaced};
 ghost use Rattle.keeping.specs.Room.{Roomy};
 ghost use Rattle.keeping.specs.Steps.{FreshBy, Holds, Puttable, Weighed};
@@ -75,6 +77,7 @@ pub(crate) fn keep_text<S: WriteStore>(
 )
     requires { ⌜ Weighed (now shares) kind (S·ReadStore .held (now store)) (now text) (now places) ⌝ }
     ensures after { λ _. ⌜ (Roomy (now (shares .entry)) (S·ReadStore .objects (now (store .entry))) (S·ReadStore .bytes (now (store .entry))) (S·ReadStore .held (now (store .entry))) → S·ReadStore .held (now (store .exit)) ≡ storedText (now (text .entry)) (S·ReadStore .held (now (store .entry)))) ⌝ }
+    ensures card { λ _. ⌜ (kind ≡ CardAnswer → Roomy (now (shares .entry)) (S·ReadStore .objects (now (store .entry))) (S·ReadStore .bytes (now (store .entry))) (S·ReadStore .held (now (store .entry))) → SameOwn (S·ReadStore .held (now (store .entry))) (S·ReadStore .held (now (store .exit)))) ⌝ }
     ensures roomy { λ _. ⌜ (Roomy (now (shares .entry)) (S·ReadStore .objects (now (store .entry))) (S·ReadStore .bytes (now (store .entry))) (S·ReadStore .held (now (store .entry))) → Roomy (now (shares .entry)) (S·ReadStore .objects (now (store .exit))) (S·ReadStore .bytes (now (store .exit))) (S·ReadStore .held (now (store .exit)))) ⌝ }
     ensures replaced { λ _. ⌜ (Roomy (now (shares .entry)) (S·ReadStore .objects (now (store .entry))) (S·ReadStore .bytes (now (store .entry))) (S·ReadStore .held (now (store .entry))) → Replaced (now (text .entry)) (S·ReadStore .held (now (store .entry))) (S·ReadStore .held (now (store .exit)))) ⌝ }
     ensures limits { λ _. ⌜ S·ReadStore .objects (now (store .exit)) ≡ S·ReadStore .objects (now (store .entry)) ⌝ ∗ ⌜ S·ReadStore .bytes (now (store .exit)) ≡ S·ReadStore .bytes (now (store .entry)) ⌝ }

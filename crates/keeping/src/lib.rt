@@ -2,6 +2,7 @@
 pub mod clear;
 mod keep;
 pub mod opening;
+pub mod reader;
 pub mod refusal;
 pub mod shares;
 pub mod take;

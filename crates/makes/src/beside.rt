@@ -1,6 +1,5 @@
 // New stores of two makes, and one list of puts and drops over both.
 ghost use mathlib.Core.Path.{_≡_};
-ghost use mathlib.Core.List.{_++_};
 ghost use Prim.Native.Nat.{_+_, _*_};
 ghost use lib.ListN.{length, take};
 ghost use Rattle.store.specs.Map.{empty};

@@ -1,9 +1,9 @@
 -- The calls of a masked store: their answers are those of the store below.
 use mathlib.Core.Path.{_≡_, refl, sym, _∙_, ap}
-use mathlib.Core.List.{List, [], _∷_, _++_}
+use mathlib.Core.List.{List, _++_}
 use mathlib.Core.Bool.{Bool, true, false, cond}
 use mathlib.Core.Logic.{⊎-elim}
-use Prim.Native.Nat.{ℕ, _≤_, _<_}
+use Prim.Native.Nat.{ℕ}
 use native.Mathlib.Omega.{arith}
 use lib.ListN.{length, take, drop}
 use lib.Dec.{ltb}
@@ -13,8 +13,7 @@ use Rattle.std.specs.Options.{mapped}
 use Rattle.std.specs.declared.result.Result.{Result}
 use Rattle.std.specs.declared.result.Result.the-variants.{Ok, Err}
 use Rattle.store.specs.declared.writing.Refused.{Refused}
-use Rattle.store.specs.declared.reading.Copied.{Copied}
-use Rattle.store.specs.declared.reading.Copied.the-variants.{Missing, Short, Filled}
+use Rattle.store.specs.declared.reading.Copied.the-variants.{Short, Filled}
 use Rattle.store.specs.Answer.{copy-answer, copy-after, put-answer, put-after}
 use Rattle.std.proofs.shelf.Tests.{cond-true, cond-false, cases-bool}
 use Rattle.std.proofs.shelf.Lists.{take-at, drop-at}

@@ -22,5 +22,6 @@ pub record MaskedBytes (pad : List ℕ) (t : ℕ) (v : List ℕ) : Type 0 where
   pub bytes : (i : ℕ) → i < length v → getD (masked pad t v) i 0 ≡ bitXor (getD v i 0) (getD pad ((i + t) % 256) 0)
   pub again : masked pad t (masked pad t v) ≡ v
 
+-- that of every tag and value
 abbrev pub MasksEachByte : List ℕ → Type 0
 MasksEachByte pad = (t : ℕ) (v : List ℕ) → MaskedBytes pad t v

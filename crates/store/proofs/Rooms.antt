@@ -1,8 +1,7 @@
 -- What putting does to the counts of a map.
-use mathlib.Core.Path.{_≡_, refl, sym, _∙_, ap, subst}
+use mathlib.Core.Path.{_≡_, sym, _∙_, ap, subst}
 use mathlib.Core.List.{List}
-use mathlib.Core.Bool.{Bool, true, false, not, cond, _||_}
-use mathlib.Core.Logic.{⊎-elim}
+use mathlib.Core.Bool.{false, not, cond, _||_}
 use Prim.Native.Nat.{ℕ, _+_, _-_, _≤_, _<_}
 use native.Mathlib.Omega.{arith}
 use lib.ListN.{length}
@@ -12,9 +11,7 @@ use Rattle.std.specs.declared.option.Option.the-variants.{Some, None}
 use Rattle.std.specs.Options.{mapped, Cases}
 use Rattle.std.proofs.shelf.Tests.{or-parts, ltb-false, cond-false, le-ltb}
 use Rattle.store.specs.Map.{Map, changed, one, size, count, total}
-use Rattle.std.specs.declared.result.Result.{Result}
 use Rattle.std.specs.declared.result.Result.the-variants.{Ok, Err}
-use Rattle.store.specs.declared.writing.Refused.{Refused}
 use Rattle.store.specs.declared.writing.Refused.the-variants.{TooLong, NoRoom}
 use Rattle.store.specs.Answer.{passes, count-after, total-after, put-answer}
 use Rattle.store.specs.Maps.{count-changed, total-changed, changed-here, changed-changed}

@@ -5,7 +5,7 @@ use mathlib.Core.Logic.{⊎-elim}
 use Prim.Native.Nat.{ℕ, suc, _+_, _-_, _≤_, _<_, min}
 use native.Mathlib.Omega.{arith}
 use lib.ListN.{length, getD, set, take, drop}
-use Rattle.std.proofs.shelf.Lists.{take-all, drop-all, take-at, take-more, drop-more, set-at, length-append, length-take-le, append-assoc, length-drop}
+use Rattle.std.proofs.shelf.Lists.{take-all, drop-all, take-at, take-more, drop-more, set-at, length-take-le, append-assoc, length-drop}
 use Rattle.std.proofs.shelf.Tests.{cases-lt}
 use Rattle.store.specs.declared.steps.Step.{Step}
 use Rattle.store.specs.declared.steps.StepAnswer.{StepAnswer}

@@ -1,10 +1,10 @@
 -- Several calls of a store, one after the other: what they answer and leave, told by the map, the limits and the calls.
 use mathlib.Core.Path.{_≡_}
-use mathlib.Core.List.{List, [], _∷_, _++_}
-use mathlib.Core.Bool.{Bool, true, false, cond}
+use mathlib.Core.List.{List, [], _∷_}
+use mathlib.Core.Bool.{cond}
 use Prim.Native.Nat.{ℕ}
 use lib.ListN.{take, drop}
-use Rattle.std.specs.declared.option.Option.the-variants.{Some, None}
+use Rattle.std.specs.declared.option.Option.the-variants.{None}
 use Rattle.std.specs.Options.{isSome}
 use Rattle.std.specs.declared.result.Result.{Result}
 use Rattle.std.specs.declared.result.Result.the-variants.{Ok, Err}
@@ -27,6 +27,7 @@ cleared (t ∷ ts) m = cleared ts (changed m (t .value) None)
 abbrev pub value-in : List ℕ → Part → List ℕ
 value-in text p = take (p .len) (drop (p .start) text)
 
+-- a put's answer, as a step's
 abbrev pub put-told : Result (Unit {0}) Refused → StepAnswer
 put-told (Ok x) = Taken
 put-told (Err e) = NotTaken e

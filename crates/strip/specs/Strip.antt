@@ -8,25 +8,28 @@ use lib.Dec.{leb}
 use Rattle.store.specs.Map.{Map}
 use Rattle.entries.specs.Entries.{Entry, lookup, good}
 
--- the limits in an area of so many bytes, where so many objects are allowed
+-- the object limit in an area of so many bytes, where so many objects are allowed: none if their tags and lengths do not fit
 abbrev pub object-room : ℕ → ℕ → ℕ
 object-room len objects = cond (leb (5 * objects) len) objects 0
 
+-- the byte limit there: what their tags and lengths leave
 abbrev pub byte-room : ℕ → ℕ → ℕ
 byte-room len objects = cond (leb (5 * objects) len) (len - 5 * objects) 0
 
--- the bytes of one entry, and of several
+-- the bytes of an entry: tag in three, length in two, the highest first, and the value
 abbrev pub entry-bytes : ℕ → List ℕ → List ℕ
 entry-bytes t v = t / 65536 % 256 ∷ t / 256 % 256 ∷ t % 256 ∷ length v / 256 % 256 ∷ length v % 256 ∷ v
 
+-- the bytes of several, back to back
 abbrev pub written : List Entry → List ℕ
 written [] = []
 written (e ∷ es) = entry-bytes (e .0) (e .1) ++ written es
 
--- the tag and the length of the entry at the front
+-- the tag of the entry at the front
 abbrev pub front-tag : List ℕ → ℕ
 front-tag bs = getD bs 0 0 * 65536 + getD bs 1 0 * 256 + getD bs 2 0
 
+-- the length of its value
 abbrev pub front-length : List ℕ → ℕ
 front-length bs = getD bs 3 0 * 256 + getD bs 4 0
 

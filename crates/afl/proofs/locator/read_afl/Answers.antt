@@ -3,7 +3,7 @@ use mathlib.Core.List.{[]}
 use borrow.Author.Needs.{needs}
 use lib.ListN.{length}
 use Rattle.std.specs.declared.option.Option.the-variants.{Some, None}
-use Rattle.std.specs.declared.result.Result.the-variants.{Ok, Err}
+use Rattle.std.specs.declared.result.Result.the-variants.{Ok}
 use Rattle.keyed.specs.Elements.{elements, memory}
 use Rattle.afl.specs.Afl.{recordsOf, counted}
 use Rattle.afl.specs.Steps.{aflFrom}

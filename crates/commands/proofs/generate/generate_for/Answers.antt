@@ -1,13 +1,6 @@
-use mathlib.Core.Path.{_≡_, sym, ap, _∙_}
-use mathlib.Core.Bool.{true, false, cond, not}
-use lib.Dec.{eqb}
-use lib.ListN.{length}
-use Rattle.std.proofs.shelf.Tests.{cond-true, cond-false, ne-eqb, eq-eqb}
-use Rattle.commands.specs.declared.instruction.CommandFault.the-variants.{List as FaultyList, DefaultList}
-use Rattle.dol.specs.Dol.{dolData}
-use Rattle.commands.specs.Commands.{bytes, onData, generateAc, serves, generateCommand}
+use mathlib.Core.Path.{ap, _∙_}
 use Rattle.commands.specs.Building.{told, written}
-use Rattle.commands.proofs.Named.{generate-named, served, not-served}
+use Rattle.commands.proofs.Named.{served, not-served}
 use Rattle.commands.proofs.generate.generate_for.Needs as need
 
 pub returns-then-cdol1-ne0 : need.returns-then-cdol1-ne0
@@ -17,7 +10,6 @@ returns-then-cdol1-ne0 g c =
     record {
       value = c .generate-with .ensures .value ∙ ap told is;
       after = c .generate-with .ensures .after ∙ ap (λ r. written r (c .args .command .now)) is;
-      law = generate-named (c .args .kind) held;
     }
 
 pub returns : need.returns
@@ -27,5 +19,4 @@ returns g c =
     record {
       value = c .generate-with-2 .ensures .value ∙ ap told is;
       after = c .generate-with-2 .ensures .after ∙ ap (λ r. written r (c .args .command .now)) is;
-      law = generate-named (c .args .kind) held;
     }

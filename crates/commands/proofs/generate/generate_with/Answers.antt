@@ -1,10 +1,10 @@
-use mathlib.Core.Path.{_≡_, sym}
+use mathlib.Core.Path.{sym}
 use mathlib.Core.List.{[], _∷_}
 use Prim.Native.Nat.{_≤_}
 use native.Mathlib.Omega.{arith}
 use borrow.Author.Needs.{needs}
 use Rattle.commands.specs.Commands.{generateAc}
-use Rattle.commands.proofs.Data.{Data, with-data, without-data}
+use Rattle.commands.proofs.Data.{with-data, without-data}
 use Rattle.commands.proofs.Frames.{done, done-empty, not-done}
 use Rattle.commands.proofs.Shapes.{generate-empty, generate-full}
 use Rattle.commands.proofs.generate.generate_with.Needs as need

@@ -3,7 +3,6 @@ use Rattle.commands.specs.declared.instruction.CommandFault.the-variants.{List
 use Rattle.dol.specs.Dol.{dolData}
 use Rattle.commands.specs.Commands.{onData, getOptions, optionsCommand}
 use Rattle.commands.specs.Building.{told, written}
-use Rattle.commands.proofs.Named.{options-named}
 use Rattle.commands.proofs.options.options_for.Needs as need
 
 pub returns : need.returns
@@ -13,5 +12,4 @@ returns g c =
     record {
       value = c .options-with .ensures .value ∙ ap (λ l. told (onData FaultyList getOptions (dolData held 252 l))) (c .value-in-pdol .ensures);
       after = c .options-with .ensures .after ∙ ap (λ l. written (onData FaultyList getOptions (dolData held 252 l)) (c .args .command .now)) (c .value-in-pdol .ensures);
-      law = options-named held;
     }

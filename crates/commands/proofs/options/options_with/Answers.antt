@@ -1,11 +1,11 @@
-use mathlib.Core.Path.{_≡_, sym}
+use mathlib.Core.Path.{sym}
 use mathlib.Core.List.{[], _∷_}
 use Prim.Native.Nat.{_+_, _≤_}
 use native.Mathlib.Omega.{arith}
 use borrow.Author.Needs.{needs}
 use Rattle.commands.specs.declared.instruction.CommandFault.the-variants.{List as FaultyList}
 use Rattle.commands.specs.Commands.{getOptions}
-use Rattle.commands.proofs.Data.{Data, with-data, without-data}
+use Rattle.commands.proofs.Data.{with-data, without-data}
 use Rattle.commands.proofs.Frames.{done, not-done}
 use Rattle.commands.proofs.Shapes.{options-short, options-long}
 use Rattle.commands.proofs.options.options_with.Needs as need

@@ -1,9 +1,7 @@
 use mathlib.Core.Path.{_≡_, sym, ap, _∙_}
-use Prim.Native.Nat.{_≤_}
 use native.Mathlib.Omega.{arith}
-use lib.Dec.{ltb}
 use lib.ListN.{length}
-use Rattle.decision.specs.Amounts.{twoDigits, decimal, padded}
+use Rattle.decision.specs.Amounts.{twoDigits, padded}
 use Rattle.decision.proofs.Order.{length-padded, same-order, bytes-padded, level-more, level-above, level-below, level-all}
 use Rattle.decision.proofs.Laws.{never-milder}
 use Rattle.decision.proofs.verification.exceeds.Needs as need

@@ -1,4 +1,3 @@
-use Prim.Native.Nat.{_≤_, _<_}
 use native.Mathlib.Omega.{arith}
 use Rattle.dictionary.proofs.Search.{window-up, window-down, window-none, window-all, stands-at}
 use Rattle.dictionary.proofs.find.find.Needs as need

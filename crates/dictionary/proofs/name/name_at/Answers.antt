@@ -1,4 +1,3 @@
-use mathlib.Core.Path.{refl}
 use Rattle.dictionary.specs.Names.{names}
 use Rattle.dictionary.proofs.name.name_at.Needs as need
 

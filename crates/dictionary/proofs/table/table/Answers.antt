@@ -1,7 +1,5 @@
-use mathlib.Core.Path.{_≡_, refl, sym, subst}
-use mathlib.Core.List.{List}
-use Rattle.dictionary.specs.declared.entry.Entry.{Entry}
-use Rattle.dictionary.specs.Dictionary.{dictionary, Ordered}
+use mathlib.Core.Path.{refl}
+use Rattle.dictionary.specs.Dictionary.{dictionary}
 use Rattle.dictionary.proofs.Order.{ordered}
 use Rattle.dictionary.proofs.table.table.Needs as need
 

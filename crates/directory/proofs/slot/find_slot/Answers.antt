@@ -4,7 +4,7 @@ use lib.ListN.{getD}
 use Rattle.std.proofs.shelf.Lists.{getD-default}
 use Rattle.directory.specs.declared.slot.Slot.{Slot}
 use Rattle.directory.specs.Directory.{slot}
-use Rattle.directory.proofs.Slots.{passed-start, passed-next, next-at, next-more, passed-end}
+use Rattle.directory.proofs.Slots.{passed-next, next-at, next-more, passed-end}
 use Rattle.directory.proofs.slot.find_slot.Needs as need
 
 pub returns-then-s-number : need.returns-then-s-number

@@ -1,6 +1,6 @@
-use mathlib.Core.Path.{sym, ap, _∙_}
+use mathlib.Core.Path.{ap, _∙_}
 use borrow.Author.Needs.{needs}
-use Prim.Native.Nat.{_+_, _*_, _<_}
+use Prim.Native.Nat.{_<_}
 use lib.ListN.{length}
 use Rattle.dol.specs.Steps.{sized}
 use Rattle.dol.proofs.Fronts.{tail, front-one, front-more, second-two, second-more, third-three}

@@ -1,5 +1,4 @@
 use mathlib.Core.Path.{_∙_}
-use native.Mathlib.Omega.{arith}
 use lib.ListN.{length}
 use Rattle.judge.proofs.Outermost.{at-fault, at-token, rest-less}
 use Rattle.judge.proofs.text.first_constructed.Needs as need

@@ -1,10 +1,8 @@
-use mathlib.Core.Path.{_≡_, refl, sym, ap, subst, _∙_}
 use lib.ListN.{length}
 use Rattle.std.proofs.shelf.Results.{err-from-errBy}
-use Rattle.judge.specs.Reads.{ReadFor}
 use Rattle.judge.proofs.Reading.{read-well, read-refused}
 use Rattle.judge.proofs.Verdicts.{judged-by-rules}
-use Rattle.judge.proofs.Fitting.{own-judged}
+use Rattle.judge.proofs.Holding.{same-judged}
 use Rattle.judge.proofs.text.read_places.Needs as need
 
 pub returns-in-Break-read-text : need.returns-in-Break-read-text
@@ -13,7 +11,7 @@ returns-in-Break-read-text c =
     record {
       read = rw (p .1, p .2) (read-refused (length (c .args .list .now)) (c .args .text .now) (c .read-text .last .list) _ (c .in-Break-read-text .ensures tt .read));
       rules = λ k m. judged-by-rules k m (c .args .text .now);
-      held = λ k m n h. own-judged k h m n (c .args .text .now);
+      held = λ k m n same. same-judged k m n (c .args .text .now) same;
     }
 
 pub returns : need.returns
@@ -21,5 +19,5 @@ returns c = record {
   read = read-well (length (c .args .list .now)) (c .args .text .now) (c .read-text .last .list) (c .in-Continue-read-text .field-0)
       (c .in-Continue-read-text .ensures tt .read) (c .in-Continue-read-text .ensures tt .within) (c .read-text .kept .list);
   rules = λ k m. judged-by-rules k m (c .args .text .now);
-  held = λ k m n h. own-judged k h m n (c .args .text .now);
+  held = λ k m n same. same-judged k m n (c .args .text .now) same;
 }

@@ -1,5 +1,5 @@
 use mathlib.Core.Path.{sym, ap, _∙_}
-use lib.ListN.{drop, length}
+use lib.ListN.{length}
 use Rattle.std.proofs.shelf.Lists.{at-drop-all}
 use Rattle.keeping.specs.Steps.{lengthAfter}
 use Rattle.keeping.proofs.Sharing.{length-here, length-other}

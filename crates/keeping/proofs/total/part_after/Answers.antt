@@ -1,6 +1,6 @@
 use mathlib.Core.Path.{_≡_, sym, _∙_}
 use mathlib.Core.Bool.{true}
-use Rattle.std.proofs.shelf.Tests.{cond-true, not-false}
+use Rattle.std.proofs.shelf.Tests.{cond-true}
 use Rattle.store.specs.Map.{size}
 use Rattle.judge.specs.Kinds.{writes}
 use Rattle.keeping.specs.Keeping.{stored}

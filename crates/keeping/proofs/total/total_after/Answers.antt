@@ -1,10 +1,7 @@
-use mathlib.Core.Path.{_≡_, refl, sym, ap, _∙_}
-use Prim.Native.Nat.{_+_}
+use mathlib.Core.Path.{refl, ap}
 use native.Mathlib.Omega.{arith}
-use lib.ListN.{length, drop, getD}
+use lib.ListN.{length}
 use Rattle.std.proofs.shelf.Lists.{at-drop-all}
-use Rattle.std.specs.declared.option.Option.the-variants.{Some}
-use Rattle.dictionary.specs.Dictionary.{dictionary, entryOf}
 use Rattle.dictionary.proofs.Order.{entry-at}
 use Rattle.keeping.specs.Keeping.{stored}
 use Rattle.keeping.specs.Shares.{partsOf, writerTotal}

@@ -1,4 +1,4 @@
-use mathlib.Core.Path.{_≡_, sym, _∙_, ap}
+use mathlib.Core.Path.{_≡_, _∙_, ap}
 use Rattle.masking.specs.Mask.{masked}
 use Rattle.masking.proofs.Calls.{put-answer-masked, put-after-masked}
 use Rattle.masking.proofs.MaskingWrite.put.Needs as need

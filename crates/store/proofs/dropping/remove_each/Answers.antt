@@ -1,12 +1,12 @@
 use borrow.Author.Needs.{needs}
-use mathlib.Core.Path.{_≡_, refl, sym, _∙_, ap}
+use mathlib.Core.Path.{sym, _∙_, ap}
 use Prim.Native.Nat.{_+_}
-use lib.ListN.{drop, length}
+use lib.ListN.{drop}
 use Rattle.std.specs.declared.option.Option.the-variants.{None}
 use Rattle.keyed.specs.declared.tag.Tag.{Tag}
 use Rattle.std.proofs.shelf.Lists.{at-drop-more, at-drop-all}
 use Rattle.store.specs.Steps.{cleared}
-use Rattle.store.specs.Map.{Map, changed}
+use Rattle.store.specs.Map.{changed}
 use Rattle.store.proofs.dropping.remove_each.Needs as need
 
 pub loop-t-again : need.loop-t-again

@@ -1,6 +1,5 @@
-use mathlib.Core.Path.{_≡_, sym, _∙_, ap}
+use mathlib.Core.Path.{_≡_, _∙_, ap}
 use native.Mathlib.Omega.{arith}
-use lib.ListN.{length}
 use Rattle.store.specs.Steps.{step-answer, step-after}
 use Rattle.store.proofs.Runs.{answers-more, map-more}
 use Rattle.store.proofs.steps.run_first.Needs as need

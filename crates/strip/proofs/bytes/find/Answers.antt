@@ -1,8 +1,7 @@
 use mathlib.Core.Path.{sym, _∙_, ap, subst}
-use Prim.Native.Nat.{ℕ, _+_, _≤_}
+use Prim.Native.Nat.{ℕ, _+_}
 use native.Mathlib.Omega.{arith}
-use lib.ListN.{length, drop}
-use Rattle.strip.specs.Strip.{entries, front-tag, front-length}
+use Rattle.strip.specs.Strip.{entries}
 use Rattle.strip.proofs.Walks.{walk-start, laid-here, here-more, walk-end, Walk, spot-at}
 use Rattle.strip.specs.Kept.{length-entries}
 use mathlib.Core.List.{_∷_, _++_}

@@ -1,4 +1,4 @@
-use mathlib.Core.Path.{_≡_, refl, sym, _∙_, ap}
+use mathlib.Core.Path.{refl, sym, ap}
 use Prim.Native.Nat.{_-_}
 use Rattle.std.specs.Options.{isSome}
 use Rattle.directory.proofs.Changes.{ordered-cut}

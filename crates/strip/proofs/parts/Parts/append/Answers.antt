@@ -1,7 +1,6 @@
 use mathlib.Core.Path.{refl}
 use Prim.Native.Nat.{_+_}
 use lib.ListN.{length}
-use native.Mathlib.Omega.{arith}
 use Rattle.strip.proofs.Changes.{sound-push}
 use Rattle.strip.proofs.parts.Parts.append.Needs as need
 
