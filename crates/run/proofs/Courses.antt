@@ -1,8 +1,8 @@
 -- What holds of every course that a card's bytes can take the run: our objects stay, the store keeps its room, and the
 -- commands left grow fewer. Assumes nothing.
 use Prim.Native.Nat.{ℕ, _+_, _≤_}
-use mathlib.Core.Path.{_≡_, refl, sym, ap, _∙_, subst}
-use mathlib.Core.Bool.{Bool, true, false, cond, not, _&&_, _||_}
+use mathlib.Core.Path.{_≡_, refl, sym, _∙_, subst}
+use mathlib.Core.Bool.{Bool, true, false, cond, _&&_}
 use mathlib.Core.List.{List, [], _∷_}
 use native.Mathlib.Omega.{arith}
 use lib.Dec.{ltb, leb}
@@ -29,7 +29,7 @@ use Rattle.decision.specs.declared.cryptogram.Cryptogram.{Cryptogram}
 use Rattle.decision.specs.declared.cryptogram.WrongCryptogram.{WrongCryptogram}
 use Rattle.decision.specs.Decision.{results}
 use Rattle.decision.specs.Cryptograms as cryptograms
-use Rattle.afl.specs.Afl.{recordsOf, named, accepted, wellMade, distinct}
+use Rattle.afl.specs.Afl.{recordsOf, named, wellMade, distinct}
 use Rattle.commands.specs.declared.instruction.CommandFault.{CommandFault}
 use Rattle.commands.specs.Commands.{bytes, optionsCommand, generateCommand}
 use Rattle.run.specs.declared.fault.Cause.{Cause}

@@ -1,11 +1,10 @@
 -- What a call keeps of the account and of the count, whichever call it is.
-use Prim.Native.Nat.{ℕ, _+_, _≤_}
-use mathlib.Core.Path.{_≡_, refl, sym, ap, ap₂, _∙_, subst}
-use mathlib.Core.Bool.{Bool, true, false, cond, not, _&&_, _||_}
-use mathlib.Core.List.{List, [], _∷_}
+use Prim.Native.Nat.{ℕ}
+use mathlib.Core.Path.{_≡_, refl, ap, ap₂, _∙_, subst}
+use mathlib.Core.Bool.{Bool, true, false, cond, not}
+use mathlib.Core.List.{List}
 use native.Mathlib.Omega.{arith}
-use lib.Dec.{ltb, leb, eqb}
-use lib.ListN.{length}
+use lib.Dec.{ltb}
 use Rattle.std.specs.declared.option.Option.{Option}
 use Rattle.std.specs.declared.option.Option.the-variants.{Some, None}
 use Rattle.std.proofs.shelf.Ways.{tells}
@@ -18,18 +17,16 @@ use Rattle.store.specs.Map.{Map}
 use Rattle.judge.specs.declared.kind.TextKind.the-variants.{TerminalWrite}
 use Rattle.judge.specs.Writers.{byWriter}
 use Rattle.judge.specs.Rules.{listedAnd}
-use Rattle.judge.specs.Judge.{judged}
 use Rattle.judge.proofs.Holding.{own-judged}
 use Rattle.keeping.specs.Keeping.{placesRead, storedText}
-use Rattle.keeping.specs.Shares.{writerTotal}
 use Rattle.keeping.specs.Own.{ownWriter, SameOwn}
 use Rattle.keeping.specs.Clearing.{stays, cleared}
 use Rattle.run.specs.declared.refusal.Refusal.{Refusal}
 use Rattle.run.specs.declared.refusal.Refusal.the-variants.{NotOpen, OverShare, Begun, NoCommand}
 use Rattle.run.specs.Numbers.{indicationOf, noError}
-use Rattle.run.specs.State.{Phase, waits, Meaning}
+use Rattle.run.specs.State.{waits, Meaning}
 use Rattle.run.specs.Run.{Course, handsOut, fails, comesTo}
-use Rattle.run.specs.Calls.{Reply, Done, first, refuseIf, checked, notOpen, noCommand, shortList, shortMemory, onJudgement, ownRefusal, writeRefusal, neededTags, needs, beginRefusal, follow}
+use Rattle.run.specs.Calls.{Done, first, refuseIf, checked, notOpen, noCommand, shortList, shortMemory, onJudgement, ownRefusal, writeRefusal, neededTags, needs, beginRefusal, follow}
 use Rattle.run.specs.Account.{Account, OwnCall, verdict, take, fed, unlessRefused, withoutTerminal, refusalOf}
 use Rattle.run.specs.Law.{Agrees}
 use Rattle.run.proofs.Maps.{stored-agree, total-agree, terminal-own, missing-agree}

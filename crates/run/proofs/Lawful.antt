@@ -1,22 +1,21 @@
 -- Every call keeps the law.
-use Prim.Native.Nat.{ℕ, _+_, _≤_}
+use Prim.Native.Nat.{ℕ}
 use mathlib.Core.Path.{_≡_, refl, sym, ap, ap₂, _∙_, subst}
-use mathlib.Core.Bool.{Bool, true, false, cond, not, _||_}
-use mathlib.Core.List.{List, [], _∷_}
-use lib.Dec.{ltb, eqb}
+use mathlib.Core.Bool.{true, not}
+use mathlib.Core.List.{List, _∷_}
 use Rattle.std.specs.declared.option.Option.{Option}
-use Rattle.std.specs.declared.option.Option.the-variants.{Some, None}
+use Rattle.std.specs.declared.option.Option.the-variants.{None}
 use Rattle.keeping.specs.Keeping.{storedText}
 use Rattle.run.specs.declared.fault.Cause.the-variants.{Link, Stopped}
 use Rattle.run.specs.declared.refusal.Refusal.{Refusal}
 use Rattle.run.specs.declared.refusal.Refusal.the-variants.{NotOpen}
-use Rattle.run.specs.State.{Limits, Meaning, holding, waits}
+use Rattle.run.specs.State.{Limits, Meaning, holding}
 use Rattle.run.specs.Run.{Course, handsOut, fails, comesTo, begins, answered}
-use Rattle.run.specs.Calls.{Call, write, begin, answer, linkFault, stop, clear, Reply, taken, command, runEnded, refused, Done, first, refuseIf, checked, notOpen, noCommand, shortMemory, writeRefusal, writeCall, beginRefusal, beginCall, answerCall, wrongCode, linkCall, stopCall, clearCall, follow, beginning, readyAgain, Config, start, step}
+use Rattle.run.specs.Calls.{Call, write, begin, answer, linkFault, stop, clear, Reply, taken, Done, first, refuseIf, notOpen, noCommand, shortMemory, writeRefusal, writeCall, beginRefusal, beginCall, answerCall, wrongCode, linkCall, stopCall, clearCall, follow, beginning, readyAgain, Config, start, step}
 use Rattle.run.specs.History.{History, turn, calls, commands, alsoCommand, runTo, runCommands}
-use Rattle.run.specs.Account.{Account, OwnCall, ownWrite, ownBegin, ownClear, verdict, take, fed, account, answers, ownCalls, ownReplies, refusalOf, Alike}
+use Rattle.run.specs.Account.{Account, ownWrite, ownBegin, ownClear, verdict, take, fed, account, answers, ownCalls, ownReplies, refusalOf, Alike}
 use Rattle.run.specs.Law.{left, Agrees, Accounted, Counted, Runs, Roomy, Stands, Same, Does, Lawful}
-use Rattle.run.proofs.Courses.{stay, Sane, sane-begins, sane-answered}
+use Rattle.run.proofs.Courses.{stay, sane-begins, sane-answered}
 use Rattle.run.proofs.Kept.{Fixed, fixed-follow, fixed-checked, first-last, opened-first, command-there, fed-checked, told-checked, agrees-checked, agrees-follow, write-same, written-same, begin-same, cleared-same}
 use Rattle.run.proofs.Rooms.{roomy-checked, roomy-follow, roomy-write, roomy-clear}
 use Rattle.run.proofs.Counts.{counted-checked, counted-write, counted-clear, counted-begin, counted-answer, counted-link, counted-stop}

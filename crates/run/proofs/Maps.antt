@@ -1,7 +1,7 @@
 -- What storing a text, or a change at one tag, does to the objects of others. Assumes nothing.
-use Prim.Native.Nat.{ℕ, zero, suc, _+_, _<_, _≤_}
-use mathlib.Core.Path.{_≡_, refl, sym, ap, ap₂, _∙_, subst}
-use mathlib.Core.Bool.{Bool, true, false, cond, not, _&&_}
+use Prim.Native.Nat.{ℕ, suc, _+_, _<_}
+use mathlib.Core.Path.{_≡_, refl, sym, ap, ap₂, _∙_}
+use mathlib.Core.Bool.{Bool, true, false, cond, _&&_}
 use mathlib.Core.List.{List, [], _∷_, _++_}
 use mathlib.Core.Logic.{⊎-elim}
 use native.Mathlib.Omega.{arith}
@@ -10,7 +10,7 @@ use lib.ListN.{length, getD}
 use Rattle.std.specs.Vec.{Every}
 use Rattle.std.specs.declared.option.Option.{Option}
 use Rattle.std.specs.declared.option.Option.the-variants.{Some, None}
-use Rattle.std.specs.declared.result.Result.the-variants.{Ok, Err}
+use Rattle.std.specs.declared.result.Result.the-variants.{Ok}
 use Rattle.std.proofs.shelf.Tests.{cases-eq, ne-eqb, cond-false, both-ways}
 use Rattle.std.proofs.shelf.Ways.{tells}
 use Rattle.dictionary.specs.declared.entry.Entry.{Entry}
@@ -24,14 +24,13 @@ use Rattle.tlv.specs.Values.{valueAt}
 use Rattle.store.specs.Map.{Map, changed, size}
 use Rattle.judge.specs.declared.kind.TextKind.{TextKind}
 use Rattle.judge.specs.declared.kind.TextKind.the-variants.{TerminalWrite, CardAnswer}
-use Rattle.judge.specs.declared.kind.TextKind.the-variants as kind
 use Rattle.judge.specs.Kinds.{writes}
 use Rattle.judge.specs.Rules.{listedAnd, hasValue}
 use Rattle.judge.specs.Judge.{judged}
 use Rattle.judge.specs.Accepted.{FitsBy, AllFit}
 use Rattle.judge.proofs.Fitting.{accepted-fits}
 use Rattle.keeping.specs.Keeping.{storedBy, storedOne, stored, placesRead, storedText}
-use Rattle.keeping.specs.Shares.{partOf, partsOf, writerTotal}
+use Rattle.keeping.specs.Shares.{partsOf, writerTotal}
 use Rattle.keeping.specs.Own.{ownWriter, ownTag, SameOwn}
 use Rattle.run.specs.Run.{firstMissing}
 

@@ -3,10 +3,9 @@ use Prim.Native.Nat.{ℕ, _≤_}
 use mathlib.Core.Path.{_≡_, refl, sym, _∙_, subst}
 use mathlib.Core.Bool.{Bool, true, false}
 use mathlib.Core.List.{List}
-use native.Mathlib.Omega.{arith}
 use lib.ListN.{length}
 use Rattle.std.specs.declared.option.Option.{Option}
-use Rattle.std.specs.declared.option.Option.the-variants.{Some, None}
+use Rattle.std.specs.declared.option.Option.the-variants.{Some}
 use Rattle.dictionary.specs.declared.entry.Writer.{Writer}
 use Rattle.dictionary.specs.Dictionary.{dictionary, entryOf}
 use Rattle.store.specs.Map.{Map, changed}
@@ -15,7 +14,7 @@ use Rattle.judge.specs.declared.kind.TextKind.the-variants.{Configuration, Term
 use Rattle.judge.specs.Kinds.{writes}
 use Rattle.judge.specs.Writers.{byWriter}
 use Rattle.keeping.specs.declared.shares.Shares.{Shares}
-use Rattle.keeping.specs.Shares.{writerTotal, shareOf}
+use Rattle.keeping.specs.Shares.{shareOf}
 use Rattle.keeping.specs.Room.{verificationResults, errorIndication, Roomy}
 use Rattle.keeping.specs.Own.{ownWriter, SameOwn}
 use Rattle.run.proofs.Maps.{of, unlisted-of, changed-apart, changed-other, total-changed}

@@ -1,11 +1,10 @@
 -- The store has room for what every call leaves. Assumes nothing.
-use Prim.Native.Nat.{ℕ, _+_, _≤_}
-use mathlib.Core.Path.{_≡_, refl, sym, ap, _∙_, subst}
+use Prim.Native.Nat.{ℕ, _≤_}
+use mathlib.Core.Path.{_≡_, refl}
 use mathlib.Core.Bool.{Bool, true, false, cond, not, _||_}
-use mathlib.Core.List.{List, [], _∷_}
+use mathlib.Core.List.{List}
 use native.Mathlib.Omega.{arith}
 use lib.Dec.{eqb, ltb}
-use lib.ListN.{length}
 use Rattle.std.specs.declared.option.Option.{Option}
 use Rattle.std.specs.declared.option.Option.the-variants.{Some, None}
 use Rattle.std.specs.declared.result.Result.{Result}
@@ -21,10 +20,9 @@ use Rattle.judge.specs.Judge.{judged}
 use Rattle.keeping.specs.declared.shares.Shares.{Shares}
 use Rattle.keeping.specs.declared.refusal.StoreRefusal.the-variants.{HoldsObjects, TooSmall}
 use Rattle.keeping.specs.Keeping.{placesRead, storedText}
-use Rattle.keeping.specs.Shares.{writerTotal, shareOf}
+use Rattle.keeping.specs.Shares.{writerTotal}
 use Rattle.keeping.specs.Room.{neededObjects, neededBytes}
 use Rattle.keeping.specs.Opening.{admitAnswer}
-use Rattle.keeping.specs.Room as room
 use Rattle.keeping.specs.Clearing.{cleared}
 use Rattle.keeping.proofs.Kept.{roomy-stored}
 use Rattle.keeping.proofs.Rooms.{roomy-cleared, roomy-empty}
@@ -33,11 +31,11 @@ use Rattle.run.specs.declared.refusal.Refusal.the-variants.{OverShare}
 use Rattle.run.specs.Numbers.{indicationOf, noError}
 use Rattle.run.specs.State.{Meaning, Limits, holding}
 use Rattle.run.specs.Run.{Course, handsOut, fails, comesTo}
-use Rattle.run.specs.Calls.{Done, checked, first, refuseIf, shortList, onJudgement, ownRefusal, writeRefusal, follow, beginning, readyAgain, configured, start, storeRefusal}
+use Rattle.run.specs.Calls.{Done, checked, refuseIf, shortList, onJudgement, ownRefusal, writeRefusal, follow, readyAgain, configured, start, storeRefusal}
 use Rattle.run.specs.Law.{Roomy}
 use Rattle.run.proofs.Maps.{accepted-places}
 use Rattle.run.proofs.Putting.{indication-roomy}
-use Rattle.run.proofs.Courses.{Keeps, Sane}
+use Rattle.run.proofs.Courses.{Sane}
 use Rattle.run.proofs.Kept.{first-last}
 
 pub roomy-checked : (o : Option Refusal) (b : Meaning) (next : Done) → Roomy b → (o ≡ None → Roomy (next .after)) → Roomy (checked o b next .after)

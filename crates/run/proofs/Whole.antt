@@ -1,9 +1,8 @@
 -- The law over whole lists of calls. Assumes nothing.
-use Prim.Native.Nat.{ℕ, _+_, _≤_}
-use mathlib.Core.Path.{_≡_, refl, sym, ap, ap₂, _∙_, subst}
+use Prim.Native.Nat.{ℕ, _≤_}
+use mathlib.Core.Path.{_≡_, refl, sym, ap, _∙_, subst}
 use mathlib.Core.List.{List, [], _∷_}
 use native.Mathlib.Omega.{arith}
-use lib.ListN.{length}
 use Rattle.std.specs.declared.option.Option.{Option}
 use Rattle.std.specs.declared.option.Option.the-variants.{Some, None}
 use Rattle.std.proofs.shelf.Ways.{tells}
@@ -16,11 +15,11 @@ use Rattle.run.specs.declared.fault.Cause.the-variants.{Link, Stopped}
 use Rattle.run.specs.declared.refusal.Refusal.{Refusal}
 use Rattle.run.specs.declared.refusal.Refusal.the-variants.{AlreadyOpen}
 use Rattle.run.specs.State.{Meaning, Limits, holding}
-use Rattle.run.specs.Run.{Course, handsOut, fails, comesTo, begins, answered}
-use Rattle.run.specs.Calls.{Call, write, begin, answer, linkFault, stop, clear, Reply, taken, refused, Done, checked, first, refuseIf, notOpen, noCommand, shortList, shortMemory, ownRefusal, writeRefusal, writeCall, beginRefusal, beginning, beginCall, answerCall, wrongCode, linkCall, stopCall, readyAgain, clearCall, follow, Config, configured, start, step, storeRefusal, openRefusal, openOver, openCall}
-use Rattle.run.specs.History.{History, turn, calls, commands, since, repliesTaken, commandWaits, runTo, runCommands}
-use Rattle.run.specs.Account.{account, ownCalls, ownReplies, answers, refusalOf, Alike}
-use Rattle.run.specs.Law.{Roomy, Stands, Same, Does, Lawful}
+use Rattle.run.specs.Run.{Course, fails, begins, answered}
+use Rattle.run.specs.Calls.{Call, write, begin, answer, linkFault, stop, clear, taken, refused, Done, checked, first, refuseIf, notOpen, noCommand, shortList, shortMemory, ownRefusal, writeRefusal, writeCall, beginRefusal, beginning, beginCall, answerCall, wrongCode, linkCall, stopCall, readyAgain, clearCall, follow, Config, configured, start, storeRefusal, openRefusal, openOver}
+use Rattle.run.specs.History.{calls, commands, since, repliesTaken, commandWaits, runTo, runCommands}
+use Rattle.run.specs.Account.{account, ownCalls, ownReplies, answers, refusalOf}
+use Rattle.run.specs.Law.{Roomy, Stands}
 use Rattle.run.specs.Theorems.{Opened, turns, Every-call-is-lawful, Refused-calls-change-nothing, Opening-stands, Refused-opening-changes-nothing, Readers-stand, Card-bytes-never-move-own-objects, At-most-66-commands}
 use Rattle.run.proofs.Kept.{first-last, first-first}
 use Rattle.run.proofs.Rooms.{roomy-start}

@@ -39,6 +39,7 @@ pub data Call : Type 0 where
   stop : Call
   clear : Call
 
+-- What a call is told: taken, a command, the end of the run, or a refusal.
 pub data Reply : Type 0 where
   taken : Reply
   command : List ℕ → Reply
@@ -50,50 +51,59 @@ pub record Done : Type 0 where
   pub reply : Reply
   pub after : Meaning
 
--- Checks in their order: the first that fails refuses the call, and nothing changes.
+-- Checks in their order: the first that fails refuses.
 abbrev pub first : Option Refusal → Option Refusal → Option Refusal
 first (Some e) o = Some e
 first None o = o
 
+-- a refusal where the test holds
 abbrev pub refuseIf : Bool → Refusal → Option Refusal
 refuseIf b e = cond b (Some e) None
 
+-- A refused call changes nothing.
 abbrev pub checked : Option Refusal → Meaning → Done → Done
 checked (Some e) m next = record { reply = refused e; after = m }
 checked None m next = next
 
+-- the reader must be open
 abbrev pub notOpen : Meaning → Option Refusal
 notOpen m = refuseIf (not (m .opened)) NotOpen
 
--- the elements of a work list, and the bytes of a command buffer
+-- the elements that a work list needs
 abbrev pub workNeeded : ℕ
 workNeeded = 64
 
+-- the bytes that a command buffer needs
 abbrev pub bufferNeeded : ℕ
 bufferNeeded = 261
 
+-- the work list must be long enough
 abbrev pub shortList : ℕ → Option Refusal
 shortList work = refuseIf (ltb work workNeeded) Short
 
+-- and the command buffer too
 abbrev pub shortMemory : ℕ → ℕ → Option Refusal
 shortMemory buffer work = refuseIf (ltb buffer bufferNeeded || ltb work workNeeded) Short
 
+-- a command must wait for its answer
 abbrev pub noCommand : Meaning → Option Refusal
 noCommand m = refuseIf (not (waits (m .phase))) NoCommand
 
--- Own texts: the fault of the text or of an object, then the share, over the objects held so far.
+-- a fault refuses, and carries on whole
 abbrev pub onJudgement : Result (Unit {0}) ObjectFault → Option Refusal → Option Refusal
 onJudgement (Err f) next = Some (BadText f)
 onJudgement (Ok x) next = next
 
+-- Own texts: the fault of the text or of an object, then the share, over the objects held so far.
 abbrev pub ownRefusal : TextKind → ℕ → Map → List ℕ → Option Refusal
 ownRefusal k share held text =
     onJudgement (judged k held text) (refuseIf (ltb share (writerTotal k (storedText text held))) OverShare)
 
--- Terminal write.
+-- How a terminal write is refused: by the terminal's share, what is held, the begun mark, its text and its work list.
 unfoldable pub writeRefusal : ℕ → Map → Bool → List ℕ → ℕ → Option Refusal
 writeRefusal share held begun text work = first (shortList work) (ownRefusal (TerminalWrite begun) share held text)
 
+-- Terminal write: the text is stored.
 unfoldable pub writeCall : Meaning → List ℕ → ℕ → Done
 writeCall m text work =
     checked (first (notOpen m) (writeRefusal (m .shares .terminal) (m .held) (m .begun) text work)) m
@@ -111,7 +121,7 @@ atEnd m o indication held = record {
   count = m .count;
 }
 
--- the fault has the phase and the record from before the call
+-- an end with result 4: its fault has the phase and the record from before the call
 abbrev pub failed : Meaning → Cause → Map → Meaning
 failed m c held = atEnd m (EndApplication (record { phase = kindOf (m .phase); awaited = recordOf (m .phase); cause = c })) (indicationOf c) held
 
@@ -124,48 +134,55 @@ follow m (handsOut bytes phase held) = record {
 follow m (fails c held) = record { reply = runEnded; after = failed m c held }
 follow m (comesTo o held) = record { reply = runEnded; after = atEnd m o noError held }
 
--- Begin: the objects that it needs, with a value.
+-- the objects that begin needs, with a value
 abbrev pub neededTags : List ℕ
 neededTags = 0x9F02 ∷ 0x9F35 ∷ 0xDF_8121 ∷ 0xDF_8122 ∷ 0xDF_8123 ∷ 0xDF_856C ∷ []
 
+-- the first that is missing refuses
 abbrev pub needs : Option ℕ → Option Refusal
 needs None = None
 needs (Some t) = Some (Needed t)
 
+-- How a begin is refused: by what is held, the begun mark, its buffer and its work list.
 unfoldable pub beginRefusal : Map → Bool → ℕ → ℕ → Option Refusal
 beginRefusal held begun buffer work =
     first (shortMemory buffer work) (first (refuseIf begun Begun) (needs (firstMissing neededTags held)))
 
+-- the begun mark is set, and no command counted yet
 abbrev pub beginning : Meaning → Meaning
 beginning m = record { opened = m .opened; limits = m .limits; shares = m .shares; held = m .held; begun = true; phase = m .phase; count = 0 }
 
+-- Begin, with any FCI.
 unfoldable pub beginCall : Meaning → List ℕ → ℕ → ℕ → Done
 beginCall m fci buffer work =
     checked (first (notOpen m) (beginRefusal (m .held) (m .begun) buffer work)) m
     (follow (beginning m) (begins (m .shares .card) (m .held) fci))
 
--- Answer, link fault and stop.
+-- Answer.
 unfoldable pub answerCall : Meaning → List ℕ → ℕ → ℕ → Done
 answerCall m bytes buffer work =
     checked (first (notOpen m) (first (shortMemory buffer work) (noCommand m))) m
     (follow m (answered (m .phase) (m .shares .card) (m .held) bytes))
 
--- codes 1 to 3
+-- the codes are 1 to 3
 abbrev pub wrongCode : ℕ → Option Refusal
 wrongCode code = refuseIf (eqb code 0 || ltb 3 code) LinkCode
 
+-- Link fault.
 unfoldable pub linkCall : Meaning → ℕ → Done
 linkCall m code =
     checked (first (notOpen m) (first (wrongCode code) (noCommand m))) m
     (follow m (fails (Link code) (m .held)))
 
+-- Stop.
 unfoldable pub stopCall : Meaning → Done
 stopCall m = checked (first (notOpen m) (noCommand m)) m (follow m (fails Stopped (m .held)))
 
--- Clear.
+-- only the configuration's objects are held, and no run has begun
 abbrev pub readyAgain : Meaning → Meaning
 readyAgain m = record { opened = m .opened; limits = m .limits; shares = m .shares; held = cleared (m .held); begun = false; phase = ready; count = 0 }
 
+-- Clear.
 unfoldable pub clearCall : Meaning → Done
 clearCall m = checked (notOpen m) m (record { reply = taken; after = readyAgain m })
 
@@ -183,6 +200,7 @@ pub record Config : Type 0 where
   pub objects : Map
   pub shares : Shares
 
+-- a reader that was just opened
 abbrev pub start : Config → Limits → Meaning
 start config limits = record {
   opened = true;
@@ -194,15 +212,17 @@ start config limits = record {
   count = 0;
 }
 
+-- with a configuration's text that was taken
 abbrev pub configured : Shares → List ℕ → Config
 configured shares text = record { objects = storedText text empty; shares = shares }
 
--- Opening, over a store that holds n objects: it must be closed, with a work list; the store must be empty and large
--- enough; then the configuration is judged, and its share.
+-- the store does not serve
 abbrev pub storeRefusal : Result (Unit {0}) StoreRefusal → Option Refusal
 storeRefusal (Ok x) = None
 storeRefusal (Err e) = Some (storeRefused e)
 
+-- How an opening over a store that holds n objects is refused: the reader is open, the work list is short, the store does
+-- not serve; then the configuration's text and its share.
 abbrev pub openRefusal : ℕ → Meaning → Shares → List ℕ → ℕ → Option Refusal
 openRefusal n m shares text work =
     first (refuseIf (m .opened) AlreadyOpen)
@@ -210,16 +230,17 @@ openRefusal n m shares text work =
     (first (storeRefusal (admitAnswer shares (m .limits .objects) (m .limits .bytes) n))
     (ownRefusal Configuration (shares .configuration) empty text)))
 
+-- Opening, over a store that holds n objects.
 unfoldable pub openOver : ℕ → Meaning → Shares → List ℕ → ℕ → Done
 openOver n m shares text work =
     checked (openRefusal n m shares text work) m
     (record { reply = taken; after = start (configured shares text) (m .limits) })
 
--- the store holds as many objects as its map
+-- Opening: the store holds as many objects as its map.
 abbrev pub openCall : Meaning → Shares → List ℕ → ℕ → Done
 openCall m shares text work = openOver (count (m .held)) m shares text work
 
--- What can be read. The outcome of an ended run, with the number of its commands.
+-- only an ended run has an outcome
 abbrev pub outcomeBy : Phase → ℕ → Result OutcomeReport Refusal
 outcomeBy ready n = Err NoOutcome
 outcomeBy awaitsOptions n = Err NoOutcome
@@ -227,12 +248,14 @@ outcomeBy (awaitsRecord r rs) n = Err NoOutcome
 outcomeBy (awaitsCryptogram c) n = Err NoOutcome
 outcomeBy (ended o) n = Ok (record { outcome = o; commands = n })
 
+-- What can be read: the outcome, with the number of commands,
 unfoldable pub outcomeRead : Meaning → Result OutcomeReport Refusal
 outcomeRead m = cond (m .opened) (outcomeBy (m .phase) (m .count)) (Err NotOpen)
 
--- The number of the phase and the count of commands, always.
+-- always the number of the phase,
 abbrev pub phaseRead : Meaning → ℕ
 phaseRead m = phaseNumber (kindOf (m .phase))
 
+-- and always the count of commands.
 abbrev pub countRead : Meaning → ℕ
 countRead m = m .count

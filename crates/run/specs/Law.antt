@@ -1,8 +1,8 @@
 -- The law of isolation.
 use Prim.Native.Nat.{ℕ, _+_, _≤_}
 use mathlib.Core.Path.{_≡_}
-use mathlib.Core.Bool.{Bool, true, false}
-use mathlib.Core.List.{List, [], _∷_}
+use mathlib.Core.Bool.{true}
+use mathlib.Core.List.{_∷_}
 use lib.ListN.{length}
 use Rattle.keeping.specs.Own.{SameOwn}
 use Rattle.keeping.specs.Room as room

@@ -27,6 +27,7 @@ use Rattle.run.specs.declared.refusal.Refusal.{Refusal}
 use Rattle.run.specs.declared.refusal.Refusal.the-variants.{NotOpen, AlreadyOpen, Short, HoldsObjects, StoreSmall, BadText, OverShare, Begun, Needed, NoCommand, LinkCode, TagNotHeld, NoOutcome, NoDataRecord}
 use Rattle.run.specs.declared.refusal.Told.{Told}
 
+-- The phases.
 abbrev pub phaseNumber : PhaseKind → ℕ
 phaseNumber Ready = 0
 phaseNumber AwaitsOptions = 20
@@ -43,6 +44,7 @@ abbrev pub faultTold : ObjectFault → Told
 faultTold (Text f) = told 5 (textFaultNumber (f .kind)) (f .at) 0
 faultTold (Object k p t) = told 6 (faultNumber k) p t
 
+-- The refusals. A reader that is not open, and at opening one that is, are both told by 1.
 abbrev pub refusalTold : Refusal → Told
 refusalTold NotOpen = told 1 0 0 0
 refusalTold AlreadyOpen = told 1 0 0 0
@@ -59,24 +61,28 @@ refusalTold TagNotHeld = told 12 0 0 0
 refusalTold NoOutcome = told 13 0 0 0
 refusalTold NoDataRecord = told 14 0 0 0
 
--- how the refusals of taking a text and of a store at opening are handed on
+-- how a refusal to take a text is handed on
 abbrev pub takeRefused : TakeRefusal → Refusal
 takeRefused ListShort = Short
 takeRefused (Fault f) = BadText f
 takeRefused Share = OverShare
 
+-- and that of a store at opening
 abbrev pub storeRefused : StoreRefusal → Refusal
 storeRefused store.HoldsObjects = HoldsObjects
 storeRefused store.TooSmall = StoreSmall
 
--- What a cause sets: L1, L2, the status that the Error Indication shows, and the tag that was missing.
+-- What a cause sets: L1, L2, the status that the Error Indication shows, and the tag that was missing; here L1 and L2
+-- alone.
 abbrev pub marked : ℕ → ℕ → Marks
 marked l1 l2 = record { l1 = l1; l2 = l2; sw1 = 0; sw2 = 0; missing = 0 }
 
+-- a text fault sets L2 4, an object fault L2 6
 abbrev pub faultMarks : ObjectFault → Marks
 faultMarks (Text f) = marked 0 4
 faultMarks (Object k p t) = marked 0 6
 
+-- A link fault sets L1 to its code, and a stop nothing; all other causes set L2.
 abbrev pub causeMarks : Cause → Marks
 causeMarks (Link code) = marked code 0
 causeMarks Stopped = marked 0 0
@@ -95,6 +101,7 @@ causeMarks BadDefaultList = marked 0 15
 abbrev pub indicated : Marks → List ℕ
 indicated m = m .l1 ∷ m .l2 ∷ 0 ∷ m .sw1 ∷ m .sw2 ∷ 0 ∷ []
 
+-- of a run that fails by a cause
 abbrev pub indicationOf : Cause → List ℕ
 indicationOf c = indicated (causeMarks c)
 
@@ -129,6 +136,7 @@ outcomeOf Aac = Declined
 outcomeOf Tc = Approved
 outcomeOf Arqc = Online
 
+-- The results.
 abbrev pub resultNumber : Outcome → ℕ
 resultNumber Approved = 1
 resultNumber Declined = 2

@@ -9,7 +9,7 @@ use Rattle.std.specs.declared.option.Option.the-variants.{Some, None}
 use Rattle.std.specs.declared.result.Result.{Result}
 use Rattle.std.specs.declared.result.Result.the-variants.{Ok, Err}
 use Rattle.keyed.specs.declared.record.Record.{Record}
-use Rattle.tlv.specs.Objects.{Seen, end, primitive, constructed, Next, fault, seen, nextAt}
+use Rattle.tlv.specs.Objects.{end, primitive, constructed, Next, fault, seen, nextAt}
 use Rattle.tlv.specs.Series.{Reading, wrong, found, meaning}
 use Rattle.store.specs.Map.{Map, empty, changed}
 use Rattle.judge.specs.declared.fault.ObjectFault.{ObjectFault}
@@ -45,6 +45,7 @@ abbrev pub unless : Option Cause → Map → Course → Course
 unless (Some c) held next = fails c held
 unless None held next = next
 
+-- a cause where the test holds
 abbrev pub causeIf : Bool → Cause → Option Cause
 causeIf b c = cond b (Some c) None
 
@@ -53,23 +54,26 @@ abbrev pub firstMissing : List ℕ → Map → Option ℕ
 firstMissing [] m = None
 firstMissing (t ∷ ts) m = cond (hasValue (m t)) (firstMissing ts m) (Some t)
 
+-- a tag without a value is a cause
 abbrev pub missing : Option ℕ → Option Cause
 missing None = None
 missing (Some t) = Some (Missing t)
 
--- The text is one object of this tag, with nothing else but filler.
+-- nothing but filler is left
 abbrev pub ends : Next → Bool
 ends (fault k at) = false
 ends (seen end rest) = true
 ends (seen (primitive t at start v) rest) = false
 ends (seen (constructed t at start v) rest) = false
 
+-- what stands next is a constructed object of this tag, and nothing but filler comes after it
 abbrev pub isOuter : ℕ → Next → Bool
 isOuter tag (fault k at) = false
 isOuter tag (seen end rest) = false
 isOuter tag (seen (primitive t at start v) rest) = false
 isOuter tag (seen (constructed t at start v) rest) = eqb t tag && ends (nextAt (length rest) rest)
 
+-- The text is one object of this tag, with nothing else but filler.
 unfoldable pub oneObject : ℕ → List ℕ → Bool
 oneObject tag text = isOuter tag (nextAt (length text) text)
 
@@ -86,48 +90,55 @@ judgedText share held text next (Ok x) =
     cond (ltb share (writerTotal CardAnswer (storedText text held))) (fails OverCardShare held)
     (next (storedText text held) (storedText text empty))
 
+-- A text of the card's, which must be one object of the outer tag.
 unfoldable pub cardText : ℕ → ℕ → Map → List ℕ → (Map → Map → Course) → Course
 cardText outer share held text next =
     cond (oneObject outer text) (judgedText share held text next (judged CardAnswer held text))
     (fails (outerCause (meaning text)) held)
 
--- After the FCI: GET PROCESSING OPTIONS.
+-- the command is handed out, or the PDOL is faulty
 abbrev pub optionsWith : Map → Result (List ℕ) CommandFault → Course
 optionsWith held (Err e) = fails (listCause e) held
 optionsWith held (Ok command) = handsOut command awaitsOptions held
 
+-- After the FCI: GET PROCESSING OPTIONS.
 unfoldable pub afterFci : Map → Map → Course
 afterFci held brought = optionsWith held (optionsCommand held)
 
--- the most bytes of an FCI, and the object that it is
+-- the most bytes of an FCI
 abbrev pub longestFci : ℕ
 longestFci = 256
 
+-- Begin: the FCI's size, and then its text, one object 6F.
 unfoldable pub begins : ℕ → Map → List ℕ → Course
 begins share held fci = unless (causeIf (ltb longestFci (length fci)) WrongSize) held (cardText 0x6F share held fci afterFci)
 
--- After the GPO answer, which must itself bring values of 82 and 94: the first record of the AFL.
+-- the first of the records is read, the others wait; an AFL that breaks a rule, or names none, is faulty
 abbrev pub firstRecord : Map → Option (List Record) → Course
 firstRecord held None = fails BadFileLocator held
 firstRecord held (Some []) = fails BadFileLocator held
 firstRecord held (Some (r ∷ rs)) = handsOut (readRecord r) (awaitsRecord r rs) held
 
+-- After the GPO answer, which must itself bring values of 82 and 94: the first record of the AFL.
 unfoldable pub afterOptions : Map → Map → Course
 afterOptions held brought =
     unless (missing (firstMissing (0x82 ∷ 0x94 ∷ []) brought)) held
     (firstRecord held (recordsOf (bytes (brought 0x94))))
 
--- The decision: the TVR is put, and GENERATE AC asks for what it decides.
+-- the TVR is put
 abbrev pub verified : Map → Map
 verified held = changed held verificationResults (Some (results (bytes (held 0x9F02)) (bytes (held 0xDF_8123))))
 
+-- what it decides, with TAC Denial, TAC Online and Terminal Type
 abbrev pub decision : Map → Cryptogram
 decision held = decided (bytes (held verificationResults)) (bytes (held 0xDF_8121)) (bytes (held 0xDF_8122)) (getD (bytes (held 0x9F35)) 0 0)
 
+-- the command is handed out, or CDOL1 or Default CDOL1 is faulty
 abbrev pub generates : Cryptogram → Map → Result (List ℕ) CommandFault → Course
 generates requested held (Err e) = fails (listCause e) held
 generates requested held (Ok command) = handsOut command (awaitsCryptogram requested) held
 
+-- GENERATE AC asks for what is decided
 abbrev pub decides : Map → Course
 decides held = generates (decision held) held (generateCommand (decision held) held)
 
@@ -136,29 +147,34 @@ unfoldable pub afterRecord : List Record → Map → Map → Course
 afterRecord (r ∷ rs) held brought = handsOut (readRecord r) (awaitsRecord r rs) held
 afterRecord [] held brought = unless (missing (firstMissing (0x5A ∷ 0x5F24 ∷ []) held)) held (decides (verified held))
 
--- After the GENERATE AC answer, which must itself bring values of 9F27, 9F36 and 9F26: the cryptogram stands, or not.
+-- the cryptogram stands, or not
 abbrev pub gives : Map → Result Cryptogram WrongCryptogram → Course
 gives held (Err e) = fails BadCryptogram held
 gives held (Ok given) = comesTo (outcomeOf given) held
 
+-- After the GENERATE AC answer, which must itself bring values of 9F27, 9F36 and 9F26: the cryptogram that 9F27 names.
 unfoldable pub afterCryptogram : Cryptogram → Map → Map → Course
 afterCryptogram requested held brought =
     unless (missing (firstMissing (0x9F27 ∷ 0x9F36 ∷ 0x9F26 ∷ []) brought)) held
     (gives held (cryptograms.answered requested (getD (bytes (brought 0x9F27)) 0 0)))
 
--- An answer has 2 to 258 bytes: its text, and the two bytes of the status.
+-- an answer's text: all but its last two bytes
 abbrev pub textOf : List ℕ → List ℕ
 textOf answer = take (length answer - 2) answer
 
+-- the first and the second of these two, the status
 abbrev pub statusAt : List ℕ → ℕ → ℕ
 statusAt answer i = getD (drop (length answer - 2) answer) i 0
 
+-- the most bytes of an answer
 abbrev pub longestAnswer : ℕ
 longestAnswer = 258
 
+-- An answer has 2 to 258 bytes.
 abbrev pub wrongSize : List ℕ → Option Cause
 wrongSize answer = causeIf (ltb (length answer) 2 || ltb longestAnswer (length answer)) WrongSize
 
+-- Its status is 9000.
 abbrev pub badStatus : List ℕ → Option Cause
 badStatus answer = causeIf (not (eqb (statusAt answer 0) 0x90 && eqb (statusAt answer 1) 0)) (BadStatus (statusAt answer 0) (statusAt answer 1))
 

@@ -19,6 +19,7 @@ pub data Phase : Type 0 where
   awaitsCryptogram : Cryptogram → Phase
   ended : Outcome → Phase
 
+-- the phase without what it holds, by which it has its number
 abbrev pub kindOf : Phase → PhaseKind
 kindOf ready = Ready
 kindOf awaitsOptions = AwaitsOptions
@@ -34,10 +35,11 @@ waits (awaitsRecord r rs) = true
 waits (awaitsCryptogram c) = true
 waits (ended o) = false
 
--- the record awaited, zeros in other phases
+-- no record
 abbrev pub noRecord : Record
 noRecord = record { sfi = 0; number = 0 }
 
+-- the record awaited, none in other phases
 abbrev pub recordOf : Phase → Record
 recordOf ready = noRecord
 recordOf awaitsOptions = noRecord
