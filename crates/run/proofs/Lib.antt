@@ -6,3 +6,4 @@ pub mod Counts
 pub mod Rooms
 pub mod Lawful
 pub mod Whole
+pub mod Taking

@@ -21,11 +21,13 @@ pub data OwnCall : Type 0 where
   ownBegin : (buffer work : ℕ) → OwnCall
   ownClear : OwnCall
 
+-- the own objects, the terminal's share and the begun mark
 pub record Account : Type 0 where
   pub objects : Map
   pub share : ℕ
   pub begun : Bool
 
+-- at opening: the configuration's objects, and the mark unset
 abbrev pub opened : Config → Account
 opened config = record { objects = config .objects; share = config .shares .terminal; begun = false }
 
@@ -43,6 +45,7 @@ terminalTag t = listedAnd (entryOf t) (λ e. byWriter false true true false fals
 unfoldable pub withoutTerminal : Map → Map
 withoutTerminal objects = λ t. cond (terminalTag t) None (objects t)
 
+-- a write taken replaces its tags, a begin taken sets the mark, a clear drops the terminal's objects and the mark
 unfoldable pub take : Account → OwnCall → Account
 take a (ownWrite text work) = record { objects = storedText text (a .objects); share = a .share; begun = a .begun }
 take a (ownBegin buffer work) = record { objects = a .objects; share = a .share; begun = true }
@@ -53,6 +56,7 @@ abbrev pub unlessRefused : Option Refusal → Account → Account → Account
 unlessRefused (Some e) a next = a
 unlessRefused None a next = next
 
+-- one call more
 unfoldable pub fed : Account → OwnCall → Account
 fed a c = unlessRefused (verdict a c) a (take a c)
 
@@ -76,6 +80,7 @@ ownCalls (linkFault code ∷ cs) = ownCalls cs
 ownCalls (stop ∷ cs) = ownCalls cs
 ownCalls (clear ∷ cs) = ownClear ∷ ownCalls cs
 
+-- the refusal that a reply is, none where the call was taken
 abbrev pub refusalOf : Reply → Option Refusal
 refusalOf taken = None
 refusalOf (command bytes) = None

@@ -32,12 +32,14 @@ handedOut (command bytes) = true
 handedOut runEnded = false
 handedOut (refused e) = false
 
+-- the command that a reply hands out, before others
 abbrev pub alsoCommand : Reply → List (List ℕ) → List (List ℕ)
 alsoCommand taken cs = cs
 alsoCommand (command bytes) cs = bytes ∷ cs
 alsoCommand runEnded cs = cs
 alsoCommand (refused e) cs = cs
 
+-- one where it holds, else none
 abbrev pub oneIf : Bool → ℕ
 oneIf b = cond b 1 0
 
@@ -76,11 +78,12 @@ commandWaits (turn (linkFault code) r ∷ past) = cond (accepted r) (handedOut r
 commandWaits (turn stop r ∷ past) = cond (accepted r) (handedOut r) (commandWaits past)
 commandWaits (turn clear r ∷ past) = cond (accepted r) (handedOut r) (commandWaits past)
 
--- The run over a list of calls, the latest first, from a reader on: where it leads, and the commands that it hands out.
+-- The run over a list of calls, the latest first, from a reader on: where it leads.
 unfoldable pub runTo : Meaning → List Call → Meaning
 runTo m [] = m
 runTo m (c ∷ cs) = step (runTo m cs) c .after
 
+-- The commands that it hands out, the latest first.
 unfoldable pub runCommands : Meaning → List Call → List (List ℕ)
 runCommands m [] = []
 runCommands m (c ∷ cs) = alsoCommand (step (runTo m cs) c .reply) (runCommands m cs)

@@ -31,10 +31,11 @@ Every-call-is-lawful = (b a : Meaning) (c : Call) (r : Reply) → Does b c r a �
 abbrev pub Refused-calls-change-nothing : Type 0
 Refused-calls-change-nothing = (m : Meaning) (c : Call) (e : Refusal) → step m c .reply ≡ refused e → step m c .after ≡ m
 
--- A reader that was opened stands, and one whose opening was refused stays as it was.
+-- A reader that was opened stands.
 abbrev pub Opening-stands : Type 0
 Opening-stands = (shares : Shares) (text : List ℕ) (m : Meaning) → Opened shares text m → Stands (configured shares text) [] m
 
+-- One whose opening was refused stays as it was.
 abbrev pub Refused-opening-changes-nothing : Type 0
 Refused-opening-changes-nothing =
     (m : Meaning) (shares : Shares) (text : List ℕ) (work : ℕ) (e : Refusal) →

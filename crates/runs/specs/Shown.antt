@@ -22,6 +22,7 @@ pub data Shown : Type 0 where
   ends : Shown
   refuses : (number kind place tag : ℕ) → Shown
 
+-- a reply as it is seen
 abbrev pub shown : Reply → Shown
 shown taken = takes
 shown (command bytes) = hands bytes
@@ -59,6 +60,7 @@ pub record Seen : Type 0 where
   pub indication : List ℕ
   pub floor : List ℕ
 
+-- after the last call
 abbrev pub atLast : Meaning → Seen
 atLast m = record {
   replies = [];
@@ -70,9 +72,11 @@ atLast m = record {
   floor = bytes (m .held 0xDF_8123);
 }
 
+-- one reply before others
 abbrev pub afterReply : Shown → Seen → Seen
 afterReply r s = record { replies = r ∷ s .replies; phase = s .phase; count = s .count; end = s .end; tvr = s .tvr; indication = s .indication; floor = s .floor }
 
+-- the calls one after the other
 abbrev pub seen : Meaning → List Call → Seen
 seen m [] = atLast m
 seen m (c ∷ cs) = afterReply (shown (step m c .reply)) (seen (step m c .after) cs)

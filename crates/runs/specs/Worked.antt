@@ -17,6 +17,7 @@ pub data Row : Type 0 where
   replies : Done → Shown → Row
   tells : Meaning → Shown → Row
 
+-- the definitions give what the row says
 abbrev pub Holds : Row → Type 0
 Holds (sees m cs s) = seen m cs ≡ s
 Holds (replies d s) = shown (d .reply) ≡ s
@@ -86,12 +87,16 @@ shares = record { configuration = 300; terminal = 300; card = 300 }
 abbrev pub withLimits : ℕ → ℕ → Meaning
 withLimits objects bytes = closed (record { objects = objects; bytes = bytes }) empty
 
+-- a store for 64 objects and 1000 bytes
 abbrev pub unopened : Meaning
 unopened = withLimits 64 1000
 
+-- a reader that was opened over it
 abbrev pub opened : Meaning
 opened = openOver 0 unopened shares config 64 .after
 
+-- The end of a row is the result and, for result 4, L1, L2, phase, SFI, record number, missing tag, and the object fault
+-- carried: 5 or 6, kind, place and tag.
 abbrev pub table : List Row
 table =
     -- an approval; three records are read, one after the other
