@@ -27,7 +27,8 @@ use Rattle.judge.specs.Rules.{listedAnd}
 use Rattle.judge.specs.Writers.{byWriter}
 use Rattle.judge.specs.Accepted.{AllFit}
 use Rattle.judge.specs.Judge.{judged}
-use Rattle.judge.proofs.Fitting.{accepted-fits, own-judged}
+use Rattle.judge.proofs.Fitting.{accepted-fits}
+use Rattle.judge.proofs.Holding.{own-judged}
 use Rattle.keeping.specs.declared.shares.Shares.{Shares}
 use Rattle.keeping.specs.declared.refusal.TakeRefusal.{TakeRefusal}
 use Rattle.keeping.specs.declared.refusal.TakeRefusal.the-variants.{ListShort, Share}

@@ -19,7 +19,7 @@ use Rattle.judge.specs.declared.kind.TextKind.the-variants.{TerminalWrite}
 use Rattle.judge.specs.Writers.{byWriter}
 use Rattle.judge.specs.Rules.{listedAnd}
 use Rattle.judge.specs.Judge.{judged}
-use Rattle.judge.proofs.Fitting.{own-judged}
+use Rattle.judge.proofs.Holding.{own-judged}
 use Rattle.keeping.specs.Keeping.{placesRead, storedText}
 use Rattle.keeping.specs.Shares.{writerTotal}
 use Rattle.keeping.specs.Own.{ownWriter, SameOwn}
