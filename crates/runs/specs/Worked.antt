@@ -358,6 +358,13 @@ table =
     ∷ replies (openOver 1 (withLimits 1 1) shares (0x9F ∷ []) 63) (refuses 2 0 0 0)
     ∷ replies (openOver 1 (withLimits 1 1) shares (0x9F ∷ []) 64) (refuses 3 0 0 0)
     ∷ replies (openOver 0 (withLimits 1 1) shares (0x9F ∷ []) 64) (refuses 4 0 0 0)
+    -- AIP and AFL from the FCI, and a cryptogram from a record, do not stand in for what an answer must itself bring
+    ∷ sees opened
+    (write amount1250 64 ∷ begin (0x6F ∷ 0x0A ∷ 0x82 ∷ 0x02 ∷ 0x00 ∷ 0x00 ∷ 0x94 ∷ 0x04 ∷ 0x08 ∷ 0x01 ∷ 0x01 ∷ 0x00 ∷ []) 261 64 ∷ answer (0x77 ∷ 0x00 ∷ 0x90 ∷ 0x00 ∷ []) 261 64 ∷ [])
+    (record { replies = takes ∷ hands askOptions ∷ ends ∷ []; phase = 40; count = 1; end = (4 ∷ 0 ∷ 1 ∷ 20 ∷ 0 ∷ 0 ∷ 0x82 ∷ 0 ∷ 0 ∷ 0 ∷ 0 ∷ []); tvr = []; indication = (0 ∷ 1 ∷ 0 ∷ 0 ∷ 0 ∷ 0 ∷ []); floor = (0x00 ∷ 0x00 ∷ 0x00 ∷ 0x01 ∷ 0x00 ∷ 0x00 ∷ []) })
+    ∷ sees opened
+    (write amount1250 64 ∷ begin fci 261 64 ∷ answer oneRecord 261 64 ∷ answer (0x70 ∷ 0x1F ∷ 0x5A ∷ 0x03 ∷ 0x12 ∷ 0x34 ∷ 0x5F ∷ 0x5F ∷ 0x24 ∷ 0x03 ∷ 0x30 ∷ 0x12 ∷ 0x31 ∷ 0x9F ∷ 0x27 ∷ 0x01 ∷ 0x40 ∷ 0x9F ∷ 0x36 ∷ 0x02 ∷ 0x00 ∷ 0x01 ∷ 0x9F ∷ 0x26 ∷ 0x08 ∷ 0x00 ∷ 0x00 ∷ 0x00 ∷ 0x00 ∷ 0x00 ∷ 0x00 ∷ 0x00 ∷ 0x00 ∷ 0x90 ∷ 0x00 ∷ []) 261 64 ∷ answer (0x77 ∷ 0x00 ∷ 0x90 ∷ 0x00 ∷ []) 261 64 ∷ [])
+    (record { replies = takes ∷ hands askOptions ∷ hands readFirst ∷ hands askTc ∷ ends ∷ []; phase = 40; count = 3; end = (4 ∷ 0 ∷ 1 ∷ 26 ∷ 0 ∷ 0 ∷ 0x9F27 ∷ 0 ∷ 0 ∷ 0 ∷ 0 ∷ []); tvr = (0 ∷ 0 ∷ 0 ∷ 0 ∷ 0 ∷ []); indication = (0 ∷ 1 ∷ 0 ∷ 0 ∷ 0 ∷ 0 ∷ []); floor = (0x00 ∷ 0x00 ∷ 0x00 ∷ 0x01 ∷ 0x00 ∷ 0x00 ∷ []) })
     ∷ []
 
 -- Each row holds.

@@ -14,5 +14,5 @@ pub fn worked_runs() -> usize
     ensures count { λ r. ⌜ r ≡ length table ⌝ }
 {
     table_holds();
-    80
+    82
 }
