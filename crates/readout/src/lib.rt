@@ -2,3 +2,5 @@
 pub mod held;
 mod object;
 pub mod refusal;
+mod tags;
+pub mod wanted;
