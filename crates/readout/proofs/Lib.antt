@@ -1,0 +1,5 @@
+pub mod Written
+pub mod Series
+pub mod Tagged
+pub mod Taking
+pub mod Each
