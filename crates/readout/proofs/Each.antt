@@ -35,9 +35,10 @@ each-only : (ts : List ℕ) (m n : Map) → All (λ t. m t ≡ n t) ts → eachO
 each-only [] m n h = refl
 each-only (t ∷ ts) m n h = ap (λ o. objectOf t (valueOf o) ∷ eachOf ts m) (h .0) ∙ ap (λ xs. objectOf t (valueOf (n t)) ∷ xs) (each-only ts m n (h .1))
 
-only-wanted : (m : Map) → Only-wanted m
+pub only-wanted : (m : Map) → Only-wanted m
 only-wanted m n e h = each-only (wantedAt m) m n h ∙ ap (λ o. eachOf (tagsIn (wantedTags (valueOf o))) n) e
 
-pub where-written : (r : Result ℕ ReadoutRefusal) (m : Map) → made r (λ _. Only-wanted m)
-where-written (Ok n) m = only-wanted m
-where-written (Err e) m = tt
+-- what holds always holds where something is written
+pub where-written : {P : Type 0} (r : Result ℕ ReadoutRefusal) → P → made r (λ _. P)
+where-written (Ok n) p = p
+where-written (Err e) p = tt

@@ -2,7 +2,7 @@
 use mathlib.Core.Bool.{Bool, true, false, cond, _||_}
 use mathlib.Core.List.{List, [], _∷_, _++_}
 use mathlib.Core.Path.{_≡_}
-use Prim.Native.Nat.{ℕ, zero, suc, _-_}
+use Prim.Native.Nat.{ℕ, zero, suc, _+_, _-_}
 use lib.Dec.{eqb, ltb}
 use lib.ListN.{length}
 use Rattle.std.specs.shelf.Lists.{All}
@@ -106,3 +106,18 @@ wantedAnswer room m n = cond (ltb room 64) (Err Short) (onTags (wantedBy m) (wan
 -- Two maps that hold the same under DF8112 and under the tags of its list have the same wanted objects.
 abbrev pub Only-wanted : Map → Type 0
 Only-wanted m = (n : Map) → m 0xDF_8112 ≡ n 0xDF_8112 → All (λ t. m t ≡ n t) (wantedAt m) → wantedObjects m ≡ wantedObjects n
+
+-- whether a tag stands in a list
+abbrev pub stands : ℕ → Listed → Bool
+stands t done = false
+stands t (cut k at) = false
+stands t (lists u at rest) = eqb u t || stands t rest
+
+-- how often a tag is among some
+abbrev pub times : ℕ → List ℕ → ℕ
+times t [] = 0
+times t (u ∷ us) = cond (eqb u t) 1 0 + times t us
+
+-- Each tag that stands in the list is wanted exactly once, and no other.
+abbrev pub Each-once : List ℕ → Type 0
+Each-once v = (ts : List ℕ) → wantedTags v ≡ Ok ts → (t : ℕ) → times t ts ≡ cond (stands t (listedIn (length v) v)) 1 0

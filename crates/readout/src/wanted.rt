@@ -6,7 +6,7 @@ ghost use Rattle.std.specs.Vec.{made};
 ghost use Rattle.readout.specs.Shown.{bytesOf, ReadsAs};
 ghost use Rattle.readout.specs.Output.{writeAfter};
 ghost use Rattle.readout.specs.Listing.{AllTags, toldIn};
-ghost use Rattle.readout.specs.Wanted.{wantedBy, wantedObjects, onTags, wantedAnswer, Only-wanted};
+ghost use Rattle.readout.specs.Wanted.{wantedBy, wantedObjects, onTags, wantedAnswer, valueOf, Only-wanted, Each-once};
 use crate::object::Absent;
 use crate::object::fetch;
 use crate::object::write_objects;
@@ -45,6 +45,7 @@ fn write_listed<S: ReadStore>(
     ensures after { λ r. ⌜ now (out .exit) ≡ writeAfter r (bytesOf (wantedObjects (S·ReadStore .held (now (store .entry))))) (now (out .entry)) ⌝ }
     ensures reads { λ r. ⌜ ReadsAs r (now (out .exit)) (wantedObjects (S·ReadStore .held (now (store .entry)))) ⌝ }
     ensures only { λ r. ⌜ made r (λ _. Only-wanted (S·ReadStore .held (now (store .entry)))) ⌝ }
+    ensures once { λ r. ⌜ made r (λ _. Each-once (valueOf (S·ReadStore .held (now (store .entry)) 0xDF_8112))) ⌝ }
 {
     let mut tags = [0u32; 64];
     match listed_tags(store, list, &mut tags) {
@@ -64,6 +65,7 @@ pub fn write_wanted<S: ReadStore>(
     ensures after { λ r. ⌜ now (out .exit) ≡ writeAfter r (bytesOf (wantedObjects (S·ReadStore .held (now (store .entry))))) (now (out .entry)) ⌝ }
     ensures reads { λ r. ⌜ ReadsAs r (now (out .exit)) (wantedObjects (S·ReadStore .held (now (store .entry)))) ⌝ }
     ensures only { λ r. ⌜ made r (λ _. Only-wanted (S·ReadStore .held (now (store .entry)))) ⌝ }
+    ensures once { λ r. ⌜ made r (λ _. Each-once (valueOf (S·ReadStore .held (now (store .entry)) 0xDF_8112))) ⌝ }
 {
     if list.len() < 64 {
         return Err(ReadoutRefusal::Short);
