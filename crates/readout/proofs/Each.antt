@@ -14,8 +14,7 @@ use Rattle.store.specs.Map.{Map}
 use Rattle.tlv.specs.Written.{isTag}
 use Rattle.readout.specs.declared.object.Absent.the-variants.{Empty}
 use Rattle.readout.specs.declared.refusal.ReadoutRefusal.{ReadoutRefusal}
-use Rattle.readout.specs.Shown.{objectOf, given, shown, objectsAt}
-use Rattle.readout.specs.Listing.{AllTags}
+use Rattle.readout.specs.Shown.{objectOf, given, shown, objectsAt, AllTags}
 use Rattle.readout.specs.Wanted.{wantedTags, valueOf, wantedBy, tagsIn, wantedAt, eachOf, wantedObjects, Only-wanted}
 
 given-each : (t : ℕ) (o : Option (List ℕ)) → given Empty t o ≡ (objectOf t (valueOf o) ∷ [])

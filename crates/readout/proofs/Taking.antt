@@ -21,7 +21,8 @@ use Rattle.tlv.specs.declared.fault.FaultKind.the-variants.{TooMany}
 use Rattle.tlv.specs.declared.fault.TextFault.{TextFault}
 use Rattle.tlv.specs.Written.{isTag}
 use Rattle.readout.specs.Wanted.{Listed, done, cut, lists, listedIn, among, different, before, atMost, wantedTags}
-use Rattle.readout.specs.Listing.{Next, end, filler, fault, want, nextOf, numbers, AllTags, after, goesOn}
+use Rattle.readout.specs.Shown.{AllTags}
+use Rattle.readout.specs.Listing.{Next, end, filler, fault, want, nextOf, numbers, after, goesOn}
 use Rattle.readout.proofs.Tagged.{follow, rule, Shorter, shorter}
 
 -- the tags of a keyed list, as numbers

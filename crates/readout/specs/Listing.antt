@@ -6,7 +6,6 @@ use Prim.Native.Nat.{ℕ, _-_, _<_}
 use lib.Dec.{eqb}
 use lib.ListN.{length, take}
 use denote.Ref.{RefT}
-use Rattle.std.specs.shelf.Lists.{All}
 use Rattle.std.specs.declared.option.Option.{Option}
 use Rattle.std.specs.declared.option.Option.the-variants.{Some, None}
 use Rattle.std.specs.declared.result.Result.{Result}
@@ -55,9 +54,6 @@ WholeTag (Broken f) = Unit {0}
 abbrev pub numbers : List Tag → List ℕ
 numbers [] = []
 numbers (t ∷ ts) = t .value ∷ numbers ts
-
-abbrev pub AllTags : List ℕ → Type 0
-AllTags = All (λ t. isTag t ≡ true)
 
 abbrev pub after : List ℕ → Result (List ℕ) TextFault → Result (List ℕ) TextFault
 after held (Ok ts) = Ok (held ++ ts)

@@ -1,10 +1,11 @@
 -- What is written out: objects, one after the other, and what reading them gives.
-use mathlib.Core.Bool.{cond}
+use mathlib.Core.Bool.{true, cond}
 use mathlib.Core.List.{List, [], _∷_, _++_}
 use mathlib.Core.Path.{_≡_}
 use Prim.Native.Nat.{ℕ, zero, suc}
 use lib.ListN.{length, take}
 use Rattle.std.specs.Vec.{made}
+use Rattle.std.specs.shelf.Lists.{All}
 use Rattle.std.specs.declared.option.Option.{Option}
 use Rattle.std.specs.declared.option.Option.the-variants.{Some, None}
 use Rattle.std.specs.declared.result.Result.{Result}
@@ -33,6 +34,10 @@ given Empty t None = objectOf t [] ∷ []
 -- a number that is no tag's has no object
 abbrev pub shown : Absent → ℕ → Option (List ℕ) → List Object
 shown a t o = cond (isTag t) (given a t o) []
+
+-- the numbers are those of tags
+abbrev pub AllTags : List ℕ → Type 0
+AllTags = All (λ t. isTag t ≡ true)
 
 -- the objects of a map under these tags, in their order
 abbrev pub objectsAt : Absent → List ℕ → Map → List Object

@@ -4,7 +4,7 @@ ghost use mathlib.Core.List.{[], _∷_};
 ghost use Prim.Native.Nat.{_≤_};
 ghost use lib.ListN.{length};
 ghost use Rattle.readout.specs.declared.object.Absent.the-variants.{LeftOut};
-ghost use Rattle.readout.specs.Shown.{objectsAt, bytesOf, ReadsAs};
+ghost use Rattle.readout.specs.Shown.{objectsAt, bytesOf, ReadsAs, AllTags};
 ghost use Rattle.readout.specs.Laws.{Only-at};
 ghost use Rattle.readout.specs.Output.{recordTags, fitAnswer, heldAnswer, writeAfter, some};
 use crate::object::Absent;
@@ -48,6 +48,7 @@ const RECORD: [u32; 28] = [
 fn record_tags() -> &'static [u32]
     ensures tags { λ r. ⌜ now r ≡ recordTags ⌝ }
     ensures few { λ r. ⌜ length (now r) ≤ 64 ⌝ }
+    ensures whole { λ _. ⌜ AllTags recordTags ⌝ }
 {
     &RECORD
 }
@@ -83,6 +84,7 @@ pub fn write_record<S: ReadStore>(store: &S, out: &mut [u8]) -> Result<usize, Re
     ensures after { λ r. ⌜ now (out .exit) ≡ writeAfter r (bytesOf (objectsAt LeftOut recordTags (S·ReadStore .held (now (store .entry))))) (now (out .entry)) ⌝ }
     ensures reads { λ r. ⌜ ReadsAs r (now (out .exit)) (objectsAt LeftOut recordTags (S·ReadStore .held (now (store .entry)))) ⌝ }
     ensures only { λ _. ⌜ Only-at LeftOut recordTags ⌝ }
+    ensures whole { λ _. ⌜ AllTags recordTags ⌝ }
 {
     write_objects(store, Absent::LeftOut, record_tags(), out)
 }

@@ -4,7 +4,8 @@ use native.Mathlib.Omega.{arith}
 use lib.ListN.{length, take}
 use Rattle.std.specs.declared.result.Result.the-variants.{Ok}
 use Rattle.keyed.specs.Elements.{elements, memory}
-use Rattle.readout.specs.Listing.{numbers, AllTags, goesOn}
+use Rattle.readout.specs.Shown.{AllTags}
+use Rattle.readout.specs.Listing.{numbers, goesOn}
 use Rattle.readout.specs.Wanted.{wantedTags}
 use Rattle.readout.proofs.Taking.{start, front-is, take-within}
 use Rattle.readout.proofs.tags.read_tags.Needs as need

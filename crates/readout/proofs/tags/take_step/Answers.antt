@@ -1,7 +1,8 @@
 use mathlib.Core.Path.{_≡_, refl, sym, ap, _∙_, subst}
 use lib.ListN.{length}
 use Rattle.keyed.specs.Elements.{elements, memory}
-use Rattle.readout.specs.Listing.{end, filler, fault, want, numbers, AllTags}
+use Rattle.readout.specs.Shown.{AllTags}
+use Rattle.readout.specs.Listing.{end, filler, fault, want, numbers}
 use Rattle.readout.proofs.Taking.{at-end, at-filler, at-fault, less, went, full-step}
 use Rattle.readout.proofs.tags.take_step.Needs as need
 
