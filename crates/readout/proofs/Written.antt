@@ -15,13 +15,12 @@ use Rattle.std.specs.shelf.Lists.{All}
 use Rattle.std.specs.Options.{Cases, mapped}
 use Rattle.std.specs.declared.option.Option.{Option}
 use Rattle.std.specs.declared.option.Option.the-variants.{Some, None}
-use Rattle.std.specs.declared.result.Result.{Result}
 use Rattle.std.specs.declared.result.Result.the-variants.{Ok, Err}
 use Rattle.store.specs.Map.{Map}
 use Rattle.store.specs.Answer.{copy-after}
 use Rattle.tlv.specs.declared.write.WriteRefusal.{WriteRefusal}
 use Rattle.tlv.specs.declared.write.WriteRefusal.the-variants.{NoTag, TooLong, Short}
-use Rattle.tlv.specs.Objects.{object, Next, seen, nextAt, marksConstructed}
+use Rattle.tlv.specs.Objects.{object, seen, marksConstructed}
 use Rattle.tlv.specs.Written.{isTag, tagBytes, lengthBytes, headBytes, objectBytes, atFront, write-answer}
 use Rattle.tlv.proofs.Writing.{reads-back}
 use Rattle.readout.specs.declared.object.Absent.{Absent}

@@ -11,7 +11,7 @@ use Rattle.std.specs.declared.option.Option.the-variants.{Some, None}
 use Rattle.std.specs.declared.result.Result.{Result}
 use Rattle.std.specs.Options.{mapped}
 use Rattle.store.specs.Map.{Map}
-use Rattle.tlv.specs.Objects.{Seen, end, primitive, constructed, Next, fault, seen, nextAt}
+use Rattle.tlv.specs.Objects.{end, primitive, constructed, Next, fault, seen, nextAt}
 use Rattle.tlv.specs.Written.{isTag, objectBytes}
 use Rattle.readout.specs.declared.object.Absent.{Absent}
 use Rattle.readout.specs.declared.object.Absent.the-variants.{LeftOut, Empty}

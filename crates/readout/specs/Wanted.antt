@@ -1,5 +1,5 @@
 -- The wanted objects: the tags of a list, each once, and what is written for them.
-use mathlib.Core.Bool.{Bool, true, false, cond, _||_}
+use mathlib.Core.Bool.{Bool, false, cond, _||_}
 use mathlib.Core.List.{List, [], _∷_, _++_}
 use mathlib.Core.Path.{_≡_}
 use Prim.Native.Nat.{ℕ, zero, suc, _+_, _-_}
@@ -15,10 +15,9 @@ use Rattle.tlv.specs.declared.fault.FaultKind.{FaultKind}
 use Rattle.tlv.specs.declared.fault.FaultKind.the-variants.{TooMany}
 use Rattle.tlv.specs.declared.fault.TextFault.{TextFault}
 use Rattle.tlv.specs.Objects.{TagRead, tag, broken, tagAt}
-use Rattle.readout.specs.declared.object.Absent.the-variants.{Empty}
 use Rattle.readout.specs.declared.refusal.ReadoutRefusal.{ReadoutRefusal}
 use Rattle.readout.specs.declared.refusal.ReadoutRefusal.the-variants.{Short, Fault}
-use Rattle.readout.specs.Shown.{Object, objectOf, objectsAt, bytesOf}
+use Rattle.readout.specs.Shown.{Object, objectOf, bytesOf}
 use Rattle.readout.specs.Output.{fitAnswer}
 
 -- what a list of tags has: its end, or a fault and its place, or a tag, its place, and what comes after it
