@@ -19,6 +19,7 @@ recordTags = 0x9F02 ∷ 0x9F03 ∷ 0x9F26 ∷ 0x5F24 ∷ 0x82 ∷ 0x50 ∷ 0x5A 
 abbrev pub fitAnswer : List ℕ → ℕ → Result ℕ ReadoutRefusal
 fitAnswer bs n = cond (ltb n (length bs)) (Err Short) (Ok (length bs))
 
+-- whether there is an object
 abbrev pub some : List Object → Bool
 some [] = false
 some (x ∷ xs) = true

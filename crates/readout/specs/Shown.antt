@@ -22,6 +22,7 @@ pub record Object : Type 0 where
   pub tag : ℕ
   pub value : List ℕ
 
+-- the object of a tag and a value
 abbrev pub objectOf : ℕ → List ℕ → Object
 objectOf t v = record { tag = t; value = v }
 
@@ -56,6 +57,7 @@ onNext again (seen end rest) = Some []
 onNext again (seen (primitive t at start v) rest) = mapped (λ xs. objectOf t v ∷ xs) (again rest)
 onNext again (seen (constructed t at start v) rest) = mapped (λ xs. objectOf t v ∷ xs) (again rest)
 
+-- a series, read with at most so many turns
 unfoldable pub objectsBy : ℕ → List ℕ → Option (List Object)
 objectsBy zero bs = None
 objectsBy (suc k) bs = onNext (λ rest. objectsBy k rest) (nextAt (length bs) bs)

@@ -26,6 +26,7 @@ pub data Listed : Type 0 where
   cut : FaultKind → ℕ → Listed
   lists : ℕ → ℕ → Listed → Listed
 
+-- a tag that stands at a place, and then the rest of the list
 abbrev pub onTag : ℕ → (List ℕ → Listed) → TagRead → Listed
 onTag at again (broken k) = cut k at
 onTag at again (tag t rest) = lists t at (again rest)
@@ -54,6 +55,7 @@ different seen (lists t at rest) =
     let new = different (seen ++ t ∷ []) rest in
     cond (among t seen) repeated (lists t at new)
 
+-- a tag, and then the tags after it
 abbrev pub before : ℕ → Result (List ℕ) TextFault → Result (List ℕ) TextFault
 before t (Ok ts) = Ok (t ∷ ts)
 before t (Err f) = Err f
@@ -69,14 +71,16 @@ atMost (suc n) (lists t at rest) = before t (atMost n rest)
 unfoldable pub wantedTags : List ℕ → Result (List ℕ) TextFault
 wantedTags v = atMost 64 (different [] (listedIn (length v) v))
 
--- the list is the value of DF8112; not held, it is empty
+-- a value, empty where none is held
 abbrev pub valueOf : Option (List ℕ) → List ℕ
 valueOf None = []
 valueOf (Some v) = v
 
+-- the tags of a map's list, or its fault
 abbrev pub wantedBy : Map → Result (List ℕ) TextFault
 wantedBy m = wantedTags (valueOf (m 0xDF_8112))
 
+-- no tags where there is a fault
 abbrev pub tagsIn : Result (List ℕ) TextFault → List ℕ
 tagsIn (Ok ts) = ts
 tagsIn (Err f) = []
@@ -90,6 +94,7 @@ abbrev pub eachOf : List ℕ → Map → List Object
 eachOf [] m = []
 eachOf (t ∷ ts) m = objectOf t (valueOf (m t)) ∷ eachOf ts m
 
+-- what is written for a map's list
 abbrev pub wantedObjects : Map → List Object
 wantedObjects m = eachOf (wantedAt m) m
 
