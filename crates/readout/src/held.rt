@@ -53,7 +53,7 @@ fn record_tags() -> &'static [u32]
 
 // Whether a tag is held: whether there is an object to write.
 fn is_held<S: ReadStore>(store: &S, tag: u32) -> bool
-    ensures value { λ r. ⌜ r ≡ some (heldObjects tag (S·ReadStore .held (now (store .entry)))) ⌝ }
+    ensures value { λ r. ⌜ r ≡ some (heldObjects tag (held (now (store .entry)))) ⌝ }
     ensures only { λ _. ⌜ Only-held tag ⌝ }
 {
     size_of(store, Absent::LeftOut, tag) != 0
@@ -65,9 +65,9 @@ pub fn write_held<S: ReadStore>(
     tag: u32,
     out: &mut [u8],
 ) -> Result<usize, ReadoutRefusal>
-    ensures answer { λ r. ⌜ r ≡ heldAnswer (heldObjects tag (S·ReadStore .held (now (store .entry)))) (length (now (out .entry))) ⌝ }
-    ensures after { λ r. ⌜ now (out .exit) ≡ writeAfter r (bytesOf (heldObjects tag (S·ReadStore .held (now (store .entry))))) (now (out .entry)) ⌝ }
-    ensures reads { λ r. ⌜ ReadsAs r (now (out .exit)) (heldObjects tag (S·ReadStore .held (now (store .entry)))) ⌝ }
+    ensures answer { λ r. ⌜ r ≡ heldAnswer (heldObjects tag (held (now (store .entry)))) (length (now (out .entry))) ⌝ }
+    ensures after { λ r. ⌜ now (out .exit) ≡ writeAfter r (bytesOf (heldObjects tag (held (now (store .entry))))) (now (out .entry)) ⌝ }
+    ensures reads { λ r. ⌜ ReadsAs r (now (out .exit)) (heldObjects tag (held (now (store .entry)))) ⌝ }
     ensures only { λ _. ⌜ Only-held tag ⌝ }
 {
     if !is_held(store, tag) {
@@ -78,9 +78,9 @@ pub fn write_held<S: ReadStore>(
 
 // Writes the Data Record, the held objects of its tags, to the buffer's front, the rest unchanged: how many bytes.
 pub fn write_record<S: ReadStore>(store: &S, out: &mut [u8]) -> Result<usize, ReadoutRefusal>
-    ensures answer { λ r. ⌜ r ≡ fitAnswer (bytesOf (recordObjects (S·ReadStore .held (now (store .entry))))) (length (now (out .entry))) ⌝ }
-    ensures after { λ r. ⌜ now (out .exit) ≡ writeAfter r (bytesOf (recordObjects (S·ReadStore .held (now (store .entry))))) (now (out .entry)) ⌝ }
-    ensures reads { λ r. ⌜ ReadsAs r (now (out .exit)) (recordObjects (S·ReadStore .held (now (store .entry)))) ⌝ }
+    ensures answer { λ r. ⌜ r ≡ fitAnswer (bytesOf (recordObjects (held (now (store .entry))))) (length (now (out .entry))) ⌝ }
+    ensures after { λ r. ⌜ now (out .exit) ≡ writeAfter r (bytesOf (recordObjects (held (now (store .entry))))) (now (out .entry)) ⌝ }
+    ensures reads { λ r. ⌜ ReadsAs r (now (out .exit)) (recordObjects (held (now (store .entry)))) ⌝ }
     ensures only { λ _. ⌜ Only-record ⌝ }
     ensures whole { λ _. ⌜ AllTags recordTags ⌝ }
 {
