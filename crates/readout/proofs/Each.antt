@@ -1,6 +1,5 @@
 -- The wanted objects are those shown for the tags of the list.
-use mathlib.Core.Path.{_≡_, refl, sym, ap, _∙_}
-use mathlib.Core.Bool.{true}
+use mathlib.Core.Path.{_≡_, refl, ap, _∙_}
 use mathlib.Core.List.{List, [], _∷_, _++_}
 use Prim.Native.Nat.{ℕ}
 use Rattle.std.proofs.shelf.Tests.{cond-true}
@@ -14,8 +13,7 @@ use Rattle.store.specs.Map.{Map}
 use Rattle.tlv.specs.Written.{isTag}
 use Rattle.readout.specs.declared.object.Absent.the-variants.{Empty}
 use Rattle.readout.specs.declared.refusal.ReadoutRefusal.{ReadoutRefusal}
-use Rattle.readout.specs.Shown.{objectOf, given, shown, objectsAt}
-use Rattle.readout.specs.Listing.{AllTags}
+use Rattle.readout.specs.Shown.{objectOf, given, shown, objectsAt, AllTags}
 use Rattle.readout.specs.Wanted.{wantedTags, valueOf, wantedBy, tagsIn, wantedAt, eachOf, wantedObjects, Only-wanted}
 
 given-each : (t : ℕ) (o : Option (List ℕ)) → given Empty t o ≡ (objectOf t (valueOf o) ∷ [])
@@ -35,9 +33,10 @@ each-only : (ts : List ℕ) (m n : Map) → All (λ t. m t ≡ n t) ts → eachO
 each-only [] m n h = refl
 each-only (t ∷ ts) m n h = ap (λ o. objectOf t (valueOf o) ∷ eachOf ts m) (h .0) ∙ ap (λ xs. objectOf t (valueOf (n t)) ∷ xs) (each-only ts m n (h .1))
 
-only-wanted : (m : Map) → Only-wanted m
+pub only-wanted : (m : Map) → Only-wanted m
 only-wanted m n e h = each-only (wantedAt m) m n h ∙ ap (λ o. eachOf (tagsIn (wantedTags (valueOf o))) n) e
 
-pub where-written : (r : Result ℕ ReadoutRefusal) (m : Map) → made r (λ _. Only-wanted m)
-where-written (Ok n) m = only-wanted m
-where-written (Err e) m = tt
+-- what holds always holds where something is written
+pub where-written : {P : Type 0} (r : Result ℕ ReadoutRefusal) → P → made r (λ _. P)
+where-written (Ok n) p = p
+where-written (Err e) p = tt

@@ -3,3 +3,4 @@ pub mod Series
 pub mod Tagged
 pub mod Taking
 pub mod Each
+pub mod Once

@@ -1,7 +1,7 @@
 -- A tag read from bytes is a tag, and what stands next in a list of them.
 use mathlib.Core.Path.{_≡_, refl, sym, ap, _∙_, subst}
-use mathlib.Core.Bool.{Bool, true, false, cond, not, _&&_, _||_}
-use mathlib.Core.List.{List, [], _∷_, _++_}
+use mathlib.Core.Bool.{Bool, true, false, cond, not, _&&_}
+use mathlib.Core.List.{List, [], _∷_}
 use Prim.Native.Nat.{ℕ, zero, suc, _+_, _-_, _*_, _/_, _%_, _<_, _≤_}
 use native.Mathlib.Omega.{arith}
 use lib.Dec.{eqb, ltb}
@@ -9,7 +9,6 @@ use lib.ListN.{length, getD, take, drop}
 use borrow.Author.Tests.{lt-ltb, le-ltb, ltb-true, ltb-false, eq-eqb, ne-eqb}
 use Rattle.std.proofs.shelf.Tests.{cond-true, cond-false}
 use Rattle.std.proofs.shelf.Lists.{take-rest}
-use Rattle.tlv.specs.declared.fault.FaultKind.{FaultKind}
 use Rattle.tlv.specs.declared.fault.FaultKind.the-variants.{TagLong}
 use Rattle.tlv.specs.Objects.{TagRead, tag, broken, tagAt, secondByte, thirdByte, marksMore, bit8}
 use Rattle.tlv.specs.Written.{isTag}

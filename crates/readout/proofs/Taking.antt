@@ -9,7 +9,6 @@ use lib.ListN.{length, getD, take, set, length-append}
 use borrow.Author.Tests.{ltb-true, ltb-false}
 use Rattle.std.proofs.shelf.Tests.{cond-true, cond-false}
 use Rattle.std.proofs.shelf.Lists.{append-nil, append-assoc, take-more, take-more-set}
-use Rattle.std.specs.shelf.Lists.{All}
 use Rattle.std.specs.declared.result.Result.{Result}
 use Rattle.std.specs.declared.result.Result.the-variants.{Ok, Err}
 use Rattle.keyed.specs.declared.tag.Tag.{Tag}
@@ -20,8 +19,9 @@ use Rattle.keyed.specs.Elements.{answer, grown}
 use Rattle.tlv.specs.declared.fault.FaultKind.the-variants.{TooMany}
 use Rattle.tlv.specs.declared.fault.TextFault.{TextFault}
 use Rattle.tlv.specs.Written.{isTag}
-use Rattle.readout.specs.Wanted.{Listed, done, cut, lists, listedIn, among, different, before, atMost, wantedTags}
-use Rattle.readout.specs.Listing.{Next, end, filler, fault, want, nextOf, numbers, AllTags, after, goesOn}
+use Rattle.readout.specs.Wanted.{done, cut, lists, listedIn, among, different, before, atMost, wantedTags}
+use Rattle.readout.specs.Shown.{AllTags}
+use Rattle.readout.specs.Listing.{Next, end, filler, fault, want, nextOf, numbers, after, goesOn}
 use Rattle.readout.proofs.Tagged.{follow, rule, Shorter, shorter}
 
 -- the tags of a keyed list, as numbers
@@ -145,9 +145,9 @@ went e xs ys bs x t at rest a room q s h r is g full =
     by-answer AlreadyThere f y = record { on = at-repeat e (numbers xs) bs (x .value) at rest w y; tags = λ ts. ts }
     by-answer Full f y = absurd (f refl)
 
-pub full-step : (e : ℕ) (xs ys : List Tag) (bs : List ℕ) (x : Tag) (t at : ℕ) (rest : List ℕ) (room : ℕ) → want t at rest ≡ nextOf e bs → x .value ≡ t
+pub full-step : (e : ℕ) (xs : List Tag) (bs : List ℕ) (x : Tag) (t at : ℕ) (rest : List ℕ) (room : ℕ) → want t at rest ≡ nextOf e bs → x .value ≡ t
     → room ≡ 64 → Full ≡ answer same room xs x → Err (record { kind = TooMany; at = at }) ≡ goesOn e (numbers xs) bs
-full-step e xs ys bs x t at rest room q s r is =
+full-step e xs bs x t at rest room q s r is =
     let y = answered Full room xs x r is in
     at-full e (numbers xs) bs (x .value) at rest (ap (λ u. want u at rest) s ∙ q) (y .0) (y .1)
 

@@ -1,6 +1,6 @@
 -- One object written, and what reading a series of them gives.
 use mathlib.Core.Path.{_≡_, refl, sym, ap, _∙_}
-use mathlib.Core.Bool.{Bool, true, false, cond, not}
+use mathlib.Core.Bool.{Bool, true, false, cond, not, _&&_}
 use mathlib.Core.List.{List, [], _∷_, _++_}
 use Prim.Native.Nat.{ℕ, zero, suc, _+_, _-_, _/_, _%_, _<_, _≤_}
 use native.Mathlib.Omega.{arith}
@@ -15,18 +15,17 @@ use Rattle.std.specs.shelf.Lists.{All}
 use Rattle.std.specs.Options.{Cases, mapped}
 use Rattle.std.specs.declared.option.Option.{Option}
 use Rattle.std.specs.declared.option.Option.the-variants.{Some, None}
-use Rattle.std.specs.declared.result.Result.{Result}
 use Rattle.std.specs.declared.result.Result.the-variants.{Ok, Err}
 use Rattle.store.specs.Map.{Map}
 use Rattle.store.specs.Answer.{copy-after}
 use Rattle.tlv.specs.declared.write.WriteRefusal.{WriteRefusal}
 use Rattle.tlv.specs.declared.write.WriteRefusal.the-variants.{NoTag, TooLong, Short}
-use Rattle.tlv.specs.Objects.{object, Next, seen, nextAt, marksConstructed}
+use Rattle.tlv.specs.Objects.{object, seen, marksConstructed}
 use Rattle.tlv.specs.Written.{isTag, tagBytes, lengthBytes, headBytes, objectBytes, atFront, write-answer}
 use Rattle.tlv.proofs.Writing.{reads-back}
 use Rattle.readout.specs.declared.object.Absent.{Absent}
 use Rattle.readout.specs.declared.object.Absent.the-variants.{LeftOut, Empty}
-use Rattle.readout.specs.Shown.{Object, objectOf, given, shown, objectsAt, bytesOf, onNext, objectsBy, objectsIn}
+use Rattle.readout.specs.Shown.{Object, objectOf, given, shown, objectsAt, bytesOf, onNext, objectsBy, AllTags}
 use Rattle.readout.specs.Output.{some}
 use Rattle.readout.specs.Laws.{Only-at}
 use Rattle.readout.specs.Steps.{whole, Fetched}
@@ -166,3 +165,16 @@ module _ (a k n : ℕ) (xs ys zs : List ℕ) (e : ys ≡ zs) (s : n ≡ a + leng
 
   pub pasted-back : drop n (putMid a k xs ys) ≡ drop n xs
   pasted-back = let l = ap length e in drop-putMid a k xs ys n (omega arith) (omega arith) (omega arith)
+
+-- whether all numbers are those of tags, computed
+abbrev all-are : List ℕ → Bool
+all-are [] = true
+all-are (t ∷ ts) = isTag t && all-are ts
+
+pub by-test : (ts : List ℕ) → all-are ts ≡ true → AllTags ts
+by-test [] h = tt
+by-test (t ∷ ts) h = go (isTag t) (all-are ts) (by-test ts) h
+  where
+    go : (a b : Bool) → (b ≡ true → AllTags ts) → a && b ≡ true → (a ≡ true) × AllTags ts
+    go true b f h = (refl, f h)
+    go false b f h = absurd (let z : _≡_ {A = ℕ} 0 1 = cc in omega arith)

@@ -10,6 +10,7 @@ pub record Told : Type 0 where
   pub kind : ℕ
   pub place : ℕ
 
+-- the numbers of each refusal
 abbrev pub told : ReadoutRefusal → Told
 told Short = record { number = 2; kind = 0; place = 0 }
 told (Fault f) = record { number = 5; kind = faultNumber (f .kind); place = f .at }

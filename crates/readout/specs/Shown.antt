@@ -1,16 +1,17 @@
 -- What is written out: objects, one after the other, and what reading them gives.
-use mathlib.Core.Bool.{cond}
+use mathlib.Core.Bool.{true, cond}
 use mathlib.Core.List.{List, [], _∷_, _++_}
 use mathlib.Core.Path.{_≡_}
 use Prim.Native.Nat.{ℕ, zero, suc}
 use lib.ListN.{length, take}
 use Rattle.std.specs.Vec.{made}
+use Rattle.std.specs.shelf.Lists.{All}
 use Rattle.std.specs.declared.option.Option.{Option}
 use Rattle.std.specs.declared.option.Option.the-variants.{Some, None}
 use Rattle.std.specs.declared.result.Result.{Result}
 use Rattle.std.specs.Options.{mapped}
 use Rattle.store.specs.Map.{Map}
-use Rattle.tlv.specs.Objects.{Seen, end, primitive, constructed, Next, fault, seen, nextAt}
+use Rattle.tlv.specs.Objects.{end, primitive, constructed, Next, fault, seen, nextAt}
 use Rattle.tlv.specs.Written.{isTag, objectBytes}
 use Rattle.readout.specs.declared.object.Absent.{Absent}
 use Rattle.readout.specs.declared.object.Absent.the-variants.{LeftOut, Empty}
@@ -21,6 +22,7 @@ pub record Object : Type 0 where
   pub tag : ℕ
   pub value : List ℕ
 
+-- the object of a tag and a value
 abbrev pub objectOf : ℕ → List ℕ → Object
 objectOf t v = record { tag = t; value = v }
 
@@ -33,6 +35,10 @@ given Empty t None = objectOf t [] ∷ []
 -- a number that is no tag's has no object
 abbrev pub shown : Absent → ℕ → Option (List ℕ) → List Object
 shown a t o = cond (isTag t) (given a t o) []
+
+-- the numbers are those of tags
+abbrev pub AllTags : List ℕ → Type 0
+AllTags = All (λ t. isTag t ≡ true)
 
 -- the objects of a map under these tags, in their order
 abbrev pub objectsAt : Absent → List ℕ → Map → List Object
@@ -51,6 +57,7 @@ onNext again (seen end rest) = Some []
 onNext again (seen (primitive t at start v) rest) = mapped (λ xs. objectOf t v ∷ xs) (again rest)
 onNext again (seen (constructed t at start v) rest) = mapped (λ xs. objectOf t v ∷ xs) (again rest)
 
+-- a series, read with at most so many turns
 unfoldable pub objectsBy : ℕ → List ℕ → Option (List Object)
 objectsBy zero bs = None
 objectsBy (suc k) bs = onNext (λ rest. objectsBy k rest) (nextAt (length bs) bs)

@@ -9,10 +9,6 @@ use Rattle.std.specs.declared.option.Option.the-variants.{Some, None}
 use Rattle.tlv.specs.Written.{isTag}
 use Rattle.readout.specs.Shown.{Object, objectOf}
 
-abbrev pub valueOf : Option (List ℕ) → List ℕ
-valueOf None = []
-valueOf (Some v) = v
-
 -- a value copied to the front of a buffer, and its length
 abbrev pub Fetched : Option ℕ → Option (List ℕ) → List ℕ → Type 0
 Fetched None o buffer = o ≡ None

@@ -1,8 +1,8 @@
 -- The wanted objects: the tags of a list, each once, and what is written for them.
-use mathlib.Core.Bool.{Bool, true, false, cond, _||_}
+use mathlib.Core.Bool.{Bool, false, cond, _||_}
 use mathlib.Core.List.{List, [], _∷_, _++_}
 use mathlib.Core.Path.{_≡_}
-use Prim.Native.Nat.{ℕ, zero, suc, _-_}
+use Prim.Native.Nat.{ℕ, zero, suc, _+_, _-_}
 use lib.Dec.{eqb, ltb}
 use lib.ListN.{length}
 use Rattle.std.specs.shelf.Lists.{All}
@@ -15,10 +15,9 @@ use Rattle.tlv.specs.declared.fault.FaultKind.{FaultKind}
 use Rattle.tlv.specs.declared.fault.FaultKind.the-variants.{TooMany}
 use Rattle.tlv.specs.declared.fault.TextFault.{TextFault}
 use Rattle.tlv.specs.Objects.{TagRead, tag, broken, tagAt}
-use Rattle.readout.specs.declared.object.Absent.the-variants.{Empty}
 use Rattle.readout.specs.declared.refusal.ReadoutRefusal.{ReadoutRefusal}
 use Rattle.readout.specs.declared.refusal.ReadoutRefusal.the-variants.{Short, Fault}
-use Rattle.readout.specs.Shown.{Object, objectOf, objectsAt, bytesOf}
+use Rattle.readout.specs.Shown.{Object, objectOf, bytesOf}
 use Rattle.readout.specs.Output.{fitAnswer}
 
 -- what a list of tags has: its end, or a fault and its place, or a tag, its place, and what comes after it
@@ -27,6 +26,7 @@ pub data Listed : Type 0 where
   cut : FaultKind → ℕ → Listed
   lists : ℕ → ℕ → Listed → Listed
 
+-- a tag that stands at a place, and then the rest of the list
 abbrev pub onTag : ℕ → (List ℕ → Listed) → TagRead → Listed
 onTag at again (broken k) = cut k at
 onTag at again (tag t rest) = lists t at (again rest)
@@ -55,6 +55,7 @@ different seen (lists t at rest) =
     let new = different (seen ++ t ∷ []) rest in
     cond (among t seen) repeated (lists t at new)
 
+-- a tag, and then the tags after it
 abbrev pub before : ℕ → Result (List ℕ) TextFault → Result (List ℕ) TextFault
 before t (Ok ts) = Ok (t ∷ ts)
 before t (Err f) = Err f
@@ -70,14 +71,16 @@ atMost (suc n) (lists t at rest) = before t (atMost n rest)
 unfoldable pub wantedTags : List ℕ → Result (List ℕ) TextFault
 wantedTags v = atMost 64 (different [] (listedIn (length v) v))
 
--- the list is the value of DF8112; not held, it is empty
+-- a value, empty where none is held
 abbrev pub valueOf : Option (List ℕ) → List ℕ
 valueOf None = []
 valueOf (Some v) = v
 
+-- the tags of a map's list, or its fault
 abbrev pub wantedBy : Map → Result (List ℕ) TextFault
 wantedBy m = wantedTags (valueOf (m 0xDF_8112))
 
+-- no tags where there is a fault
 abbrev pub tagsIn : Result (List ℕ) TextFault → List ℕ
 tagsIn (Ok ts) = ts
 tagsIn (Err f) = []
@@ -91,6 +94,7 @@ abbrev pub eachOf : List ℕ → Map → List Object
 eachOf [] m = []
 eachOf (t ∷ ts) m = objectOf t (valueOf (m t)) ∷ eachOf ts m
 
+-- what is written for a map's list
 abbrev pub wantedObjects : Map → List Object
 wantedObjects m = eachOf (wantedAt m) m
 
@@ -106,3 +110,18 @@ wantedAnswer room m n = cond (ltb room 64) (Err Short) (onTags (wantedBy m) (wan
 -- Two maps that hold the same under DF8112 and under the tags of its list have the same wanted objects.
 abbrev pub Only-wanted : Map → Type 0
 Only-wanted m = (n : Map) → m 0xDF_8112 ≡ n 0xDF_8112 → All (λ t. m t ≡ n t) (wantedAt m) → wantedObjects m ≡ wantedObjects n
+
+-- whether a tag stands in a list
+abbrev pub stands : ℕ → Listed → Bool
+stands t done = false
+stands t (cut k at) = false
+stands t (lists u at rest) = eqb u t || stands t rest
+
+-- how often a tag is among some
+abbrev pub times : ℕ → List ℕ → ℕ
+times t [] = 0
+times t (u ∷ us) = cond (eqb u t) 1 0 + times t us
+
+-- Each tag that stands in the list is wanted exactly once, and no other.
+abbrev pub Each-once : List ℕ → Type 0
+Each-once v = (ts : List ℕ) → wantedTags v ≡ Ok ts → (t : ℕ) → times t ts ≡ cond (stands t (listedIn (length v) v)) 1 0

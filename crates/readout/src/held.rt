@@ -1,12 +1,10 @@
 // Writes one object, and the Data Record.
 ghost use mathlib.Core.Path.{_≡_};
-ghost use mathlib.Core.List.{[], _∷_};
 ghost use Prim.Native.Nat.{_≤_};
 ghost use lib.ListN.{length};
-ghost use Rattle.readout.specs.declared.object.Absent.the-variants.{LeftOut};
-ghost use Rattle.readout.specs.Shown.{objectsAt, bytesOf, ReadsAs};
-ghost use Rattle.readout.specs.Laws.{Only-at};
-ghost use Rattle.readout.specs.Output.{recordTags, fitAnswer, heldAnswer, writeAfter, some};
+ghost use Rattle.readout.specs.Shown.{bytesOf, ReadsAs, AllTags};
+ghost use Rattle.readout.specs.Laws.{Only-held, Only-record};
+ghost use Rattle.readout.specs.Output.{recordTags, heldObjects, recordObjects, fitAnswer, heldAnswer, writeAfter, some};
 use crate::object::Absent;
 use crate::object::size_of;
 use crate::object::write_objects;
@@ -48,14 +46,15 @@ const RECORD: [u32; 28] = [
 fn record_tags() -> &'static [u32]
     ensures tags { λ r. ⌜ now r ≡ recordTags ⌝ }
     ensures few { λ r. ⌜ length (now r) ≤ 64 ⌝ }
+    ensures whole { λ _. ⌜ AllTags recordTags ⌝ }
 {
     &RECORD
 }
 
 // Whether a tag is held: whether there is an object to write.
 fn is_held<S: ReadStore>(store: &S, tag: u32) -> bool
-    ensures value { λ r. ⌜ r ≡ some (objectsAt LeftOut (tag ∷ []) (S·ReadStore .held (now (store .entry)))) ⌝ }
-    ensures only { λ _. ⌜ Only-at LeftOut (tag ∷ []) ⌝ }
+    ensures value { λ r. ⌜ r ≡ some (heldObjects tag (held (now (store .entry)))) ⌝ }
+    ensures only { λ _. ⌜ Only-held tag ⌝ }
 {
     size_of(store, Absent::LeftOut, tag) != 0
 }
@@ -66,10 +65,10 @@ pub fn write_held<S: ReadStore>(
     tag: u32,
     out: &mut [u8],
 ) -> Result<usize, ReadoutRefusal>
-    ensures answer { λ r. ⌜ r ≡ heldAnswer (objectsAt LeftOut (tag ∷ []) (S·ReadStore .held (now (store .entry)))) (length (now (out .entry))) ⌝ }
-    ensures after { λ r. ⌜ now (out .exit) ≡ writeAfter r (bytesOf (objectsAt LeftOut (tag ∷ []) (S·ReadStore .held (now (store .entry))))) (now (out .entry)) ⌝ }
-    ensures reads { λ r. ⌜ ReadsAs r (now (out .exit)) (objectsAt LeftOut (tag ∷ []) (S·ReadStore .held (now (store .entry)))) ⌝ }
-    ensures only { λ _. ⌜ Only-at LeftOut (tag ∷ []) ⌝ }
+    ensures answer { λ r. ⌜ r ≡ heldAnswer (heldObjects tag (held (now (store .entry)))) (length (now (out .entry))) ⌝ }
+    ensures after { λ r. ⌜ now (out .exit) ≡ writeAfter r (bytesOf (heldObjects tag (held (now (store .entry))))) (now (out .entry)) ⌝ }
+    ensures reads { λ r. ⌜ ReadsAs r (now (out .exit)) (heldObjects tag (held (now (store .entry)))) ⌝ }
+    ensures only { λ _. ⌜ Only-held tag ⌝ }
 {
     if !is_held(store, tag) {
         return Err(ReadoutRefusal::NotHeld);
@@ -79,10 +78,11 @@ pub fn write_held<S: ReadStore>(
 
 // Writes the Data Record, the held objects of its tags, to the buffer's front, the rest unchanged: how many bytes.
 pub fn write_record<S: ReadStore>(store: &S, out: &mut [u8]) -> Result<usize, ReadoutRefusal>
-    ensures answer { λ r. ⌜ r ≡ fitAnswer (bytesOf (objectsAt LeftOut recordTags (S·ReadStore .held (now (store .entry))))) (length (now (out .entry))) ⌝ }
-    ensures after { λ r. ⌜ now (out .exit) ≡ writeAfter r (bytesOf (objectsAt LeftOut recordTags (S·ReadStore .held (now (store .entry))))) (now (out .entry)) ⌝ }
-    ensures reads { λ r. ⌜ ReadsAs r (now (out .exit)) (objectsAt LeftOut recordTags (S·ReadStore .held (now (store .entry)))) ⌝ }
-    ensures only { λ _. ⌜ Only-at LeftOut recordTags ⌝ }
+    ensures answer { λ r. ⌜ r ≡ fitAnswer (bytesOf (recordObjects (held (now (store .entry))))) (length (now (out .entry))) ⌝ }
+    ensures after { λ r. ⌜ now (out .exit) ≡ writeAfter r (bytesOf (recordObjects (held (now (store .entry))))) (now (out .entry)) ⌝ }
+    ensures reads { λ r. ⌜ ReadsAs r (now (out .exit)) (recordObjects (held (now (store .entry)))) ⌝ }
+    ensures only { λ _. ⌜ Only-record ⌝ }
+    ensures whole { λ _. ⌜ AllTags recordTags ⌝ }
 {
     write_objects(store, Absent::LeftOut, record_tags(), out)
 }

@@ -3,10 +3,9 @@ ghost use mathlib.Core.Path.{_≡_};
 ghost use mathlib.Core.List.{_++_};
 ghost use Prim.Native.Nat.{_+_, _≤_};
 ghost use lib.ListN.{length, take, drop};
-ghost use Rattle.std.specs.Options.{mapped};
 ghost use Rattle.tlv.specs.Written.{atFront};
-ghost use Rattle.readout.specs.Shown.{given, shown, objectsAt, objectOf, bytesOf, ReadsAs};
-ghost use Rattle.readout.specs.Steps.{Fetched, valueOf, whole};
+ghost use Rattle.readout.specs.Shown.{shown, objectsAt, bytesOf, ReadsAs};
+ghost use Rattle.readout.specs.Steps.{Fetched, whole};
 ghost use Rattle.readout.specs.Laws.{Only-at};
 ghost use Rattle.readout.specs.Output.{fitAnswer, writeAfter};
 use crate::refusal::ReadoutRefusal;
@@ -23,7 +22,7 @@ pub(crate) enum Absent {
 
 // Copies the value of a tag to the front of `value`: its length, none if the tag is not held.
 pub(crate) fn fetch<S: ReadStore>(store: &S, tag: u32, value: &mut [u8; 255]) -> Option<usize>
-    ensures { λ r. ⌜ Fetched r (S·ReadStore .held (now (store .entry)) tag) (now (value .exit)) ⌝ }
+    ensures { λ r. ⌜ Fetched r (held (now (store .entry)) tag) (now (value .exit)) ⌝ }
 {
     let Some(tag) = Tag::new(tag) else {
         return None;
@@ -50,8 +49,8 @@ fn object_bytes(tag: u32, value: &[u8], room: &mut [u8; 260]) -> usize
 
 // Writes the object that is shown for a tag to the front of `room`: how many bytes.
 fn shown_bytes<S: ReadStore>(store: &S, absent: Absent, tag: u32, room: &mut [u8; 260]) -> usize
-    ensures value { λ r. ⌜ r ≡ length (bytesOf (shown absent tag (S·ReadStore .held (now (store .entry)) tag))) ⌝ }
-    ensures front { λ r. ⌜ take r (now (room .exit)) ≡ bytesOf (shown absent tag (S·ReadStore .held (now (store .entry)) tag)) ⌝ }
+    ensures value { λ r. ⌜ r ≡ length (bytesOf (shown absent tag (held (now (store .entry)) tag))) ⌝ }
+    ensures front { λ r. ⌜ take r (now (room .exit)) ≡ bytesOf (shown absent tag (held (now (store .entry)) tag)) ⌝ }
     ensures small { λ r. ⌜ r ≤ 260 ⌝ }
 {
     let mut value = [0u8; 255];
@@ -68,7 +67,7 @@ fn shown_bytes<S: ReadStore>(store: &S, absent: Absent, tag: u32, room: &mut [u8
 
 // How many bytes the object that is shown for a tag has.
 pub(crate) fn size_of<S: ReadStore>(store: &S, absent: Absent, tag: u32) -> usize
-    ensures value { λ r. ⌜ r ≡ length (bytesOf (shown absent tag (S·ReadStore .held (now (store .entry)) tag))) ⌝ }
+    ensures value { λ r. ⌜ r ≡ length (bytesOf (shown absent tag (held (now (store .entry)) tag))) ⌝ }
     ensures small { λ r. ⌜ r ≤ 260 ⌝ }
 {
     let mut room = [0u8; 260];
@@ -87,9 +86,9 @@ fn put_at(out: &mut [u8], at: usize, bytes: &[u8])
 
 // Writes the object that is shown for a tag at a place of the buffer: the place after it.
 fn put_shown<S: ReadStore>(store: &S, absent: Absent, tag: u32, out: &mut [u8], at: usize) -> usize
-    requires { ⌜ at + length (bytesOf (shown absent tag (S·ReadStore .held (now store) tag))) ≤ length (now out) ⌝ }
-    ensures after { λ r. ⌜ r ≡ at + length (bytesOf (shown absent tag (S·ReadStore .held (now (store .entry)) tag))) ⌝ }
-    ensures front { λ r. ⌜ take r (now (out .exit)) ≡ take at (now (out .entry)) ++ bytesOf (shown absent tag (S·ReadStore .held (now (store .entry)) tag)) ⌝ }
+    requires { ⌜ at + length (bytesOf (shown absent tag (held (now store) tag))) ≤ length (now out) ⌝ }
+    ensures after { λ r. ⌜ r ≡ at + length (bytesOf (shown absent tag (held (now (store .entry)) tag))) ⌝ }
+    ensures front { λ r. ⌜ take r (now (out .exit)) ≡ take at (now (out .entry)) ++ bytesOf (shown absent tag (held (now (store .entry)) tag)) ⌝ }
     ensures back { λ r. ⌜ drop r (now (out .exit)) ≡ drop r (now (out .entry)) ⌝ }
 {
     let mut room = [0u8; 260];
@@ -101,7 +100,7 @@ fn put_shown<S: ReadStore>(store: &S, absent: Absent, tag: u32, out: &mut [u8], 
 // How many bytes the objects that are shown for tags have.
 fn sizes_of<S: ReadStore>(store: &S, absent: Absent, tags: &[u32]) -> usize
     requires { ⌜ length (now tags) ≤ 64 ⌝ }
-    ensures value { λ r. ⌜ r ≡ length (bytesOf (objectsAt absent (now (tags .entry)) (S·ReadStore .held (now (store .entry))))) ⌝ }
+    ensures value { λ r. ⌜ r ≡ length (bytesOf (objectsAt absent (now (tags .entry)) (held (now (store .entry))))) ⌝ }
     ensures only { λ _. ⌜ Only-at absent (now (tags .entry)) ⌝ }
 {
     let mut all = 0;
@@ -113,8 +112,8 @@ fn sizes_of<S: ReadStore>(store: &S, absent: Absent, tags: &[u32]) -> usize
 
 // Writes the objects that are shown for tags to the buffer's front.
 fn put_objects<S: ReadStore>(store: &S, absent: Absent, tags: &[u32], out: &mut [u8])
-    requires { ⌜ length (bytesOf (objectsAt absent (now tags) (S·ReadStore .held (now store)))) ≤ length (now out) ⌝ }
-    ensures { λ _. ⌜ now (out .exit) ≡ atFront (bytesOf (objectsAt absent (now (tags .entry)) (S·ReadStore .held (now (store .entry))))) (now (out .entry)) ⌝ }
+    requires { ⌜ length (bytesOf (objectsAt absent (now tags) (held (now store)))) ≤ length (now out) ⌝ }
+    ensures { λ _. ⌜ now (out .exit) ≡ atFront (bytesOf (objectsAt absent (now (tags .entry)) (held (now (store .entry))))) (now (out .entry)) ⌝ }
 {
     let mut at = 0;
     for tag in tags {
@@ -130,9 +129,9 @@ pub(crate) fn write_objects<S: ReadStore>(
     out: &mut [u8],
 ) -> Result<usize, ReadoutRefusal>
     requires { ⌜ length (now tags) ≤ 64 ⌝ }
-    ensures answer { λ r. ⌜ r ≡ fitAnswer (bytesOf (objectsAt absent (now (tags .entry)) (S·ReadStore .held (now (store .entry))))) (length (now (out .entry))) ⌝ }
-    ensures after { λ r. ⌜ now (out .exit) ≡ writeAfter r (bytesOf (objectsAt absent (now (tags .entry)) (S·ReadStore .held (now (store .entry))))) (now (out .entry)) ⌝ }
-    ensures reads { λ r. ⌜ ReadsAs r (now (out .exit)) (objectsAt absent (now (tags .entry)) (S·ReadStore .held (now (store .entry)))) ⌝ }
+    ensures answer { λ r. ⌜ r ≡ fitAnswer (bytesOf (objectsAt absent (now (tags .entry)) (held (now (store .entry))))) (length (now (out .entry))) ⌝ }
+    ensures after { λ r. ⌜ now (out .exit) ≡ writeAfter r (bytesOf (objectsAt absent (now (tags .entry)) (held (now (store .entry))))) (now (out .entry)) ⌝ }
+    ensures reads { λ r. ⌜ ReadsAs r (now (out .exit)) (objectsAt absent (now (tags .entry)) (held (now (store .entry)))) ⌝ }
     ensures only { λ _. ⌜ Only-at absent (now (tags .entry)) ⌝ }
 {
     let n = sizes_of(store, absent, tags);

@@ -3,10 +3,10 @@ ghost use mathlib.Core.Path.{_≡_};
 ghost use Prim.Native.Nat.{_≤_};
 ghost use lib.ListN.{length, take};
 ghost use Rattle.std.specs.Vec.{made};
-ghost use Rattle.readout.specs.Shown.{bytesOf, ReadsAs};
+ghost use Rattle.readout.specs.Shown.{bytesOf, ReadsAs, AllTags};
 ghost use Rattle.readout.specs.Output.{writeAfter};
-ghost use Rattle.readout.specs.Listing.{AllTags, toldIn};
-ghost use Rattle.readout.specs.Wanted.{wantedBy, wantedObjects, onTags, wantedAnswer, Only-wanted};
+ghost use Rattle.readout.specs.Listing.{toldIn};
+ghost use Rattle.readout.specs.Wanted.{wantedBy, wantedObjects, onTags, wantedAnswer, valueOf, Only-wanted, Each-once};
 use crate::object::Absent;
 use crate::object::fetch;
 use crate::object::write_objects;
@@ -23,7 +23,7 @@ fn listed_tags<S: ReadStore>(
     tags: &mut [u32; 64],
 ) -> Result<usize, TextFault>
     requires { ⌜ length (now list) ≡ 64 ⌝ }
-    ensures value { λ r. ⌜ toldIn r (now (tags .exit)) ≡ wantedBy (S·ReadStore .held (now (store .entry))) ⌝ }
+    ensures value { λ r. ⌜ toldIn r (now (tags .exit)) ≡ wantedBy (held (now (store .entry))) ⌝ }
     ensures tags { λ r. ⌜ made r (λ n. AllTags (take n (now (tags .exit)))) ⌝ }
     ensures few { λ r. ⌜ made r (λ n. n ≤ 64) ⌝ }
 {
@@ -41,10 +41,11 @@ fn write_listed<S: ReadStore>(
     out: &mut [u8],
 ) -> Result<usize, ReadoutRefusal>
     requires { ⌜ length (now list) ≡ 64 ⌝ }
-    ensures answer { λ r. ⌜ r ≡ onTags (wantedBy (S·ReadStore .held (now (store .entry)))) (wantedObjects (S·ReadStore .held (now (store .entry)))) (length (now (out .entry))) ⌝ }
-    ensures after { λ r. ⌜ now (out .exit) ≡ writeAfter r (bytesOf (wantedObjects (S·ReadStore .held (now (store .entry))))) (now (out .entry)) ⌝ }
-    ensures reads { λ r. ⌜ ReadsAs r (now (out .exit)) (wantedObjects (S·ReadStore .held (now (store .entry)))) ⌝ }
-    ensures only { λ r. ⌜ made r (λ _. Only-wanted (S·ReadStore .held (now (store .entry)))) ⌝ }
+    ensures answer { λ r. ⌜ r ≡ onTags (wantedBy (held (now (store .entry)))) (wantedObjects (held (now (store .entry)))) (length (now (out .entry))) ⌝ }
+    ensures after { λ r. ⌜ now (out .exit) ≡ writeAfter r (bytesOf (wantedObjects (held (now (store .entry))))) (now (out .entry)) ⌝ }
+    ensures reads { λ r. ⌜ ReadsAs r (now (out .exit)) (wantedObjects (held (now (store .entry)))) ⌝ }
+    ensures only { λ r. ⌜ made r (λ _. Only-wanted (held (now (store .entry)))) ⌝ }
+    ensures once { λ r. ⌜ made r (λ _. Each-once (valueOf (held (now (store .entry)) 0xDF_8112))) ⌝ }
 {
     let mut tags = [0u32; 64];
     match listed_tags(store, list, &mut tags) {
@@ -60,10 +61,11 @@ pub fn write_wanted<S: ReadStore>(
     list: &mut [Tag],
     out: &mut [u8],
 ) -> Result<usize, ReadoutRefusal>
-    ensures answer { λ r. ⌜ r ≡ wantedAnswer (length (now (list .entry))) (S·ReadStore .held (now (store .entry))) (length (now (out .entry))) ⌝ }
-    ensures after { λ r. ⌜ now (out .exit) ≡ writeAfter r (bytesOf (wantedObjects (S·ReadStore .held (now (store .entry))))) (now (out .entry)) ⌝ }
-    ensures reads { λ r. ⌜ ReadsAs r (now (out .exit)) (wantedObjects (S·ReadStore .held (now (store .entry)))) ⌝ }
-    ensures only { λ r. ⌜ made r (λ _. Only-wanted (S·ReadStore .held (now (store .entry)))) ⌝ }
+    ensures answer { λ r. ⌜ r ≡ wantedAnswer (length (now (list .entry))) (held (now (store .entry))) (length (now (out .entry))) ⌝ }
+    ensures after { λ r. ⌜ now (out .exit) ≡ writeAfter r (bytesOf (wantedObjects (held (now (store .entry))))) (now (out .entry)) ⌝ }
+    ensures reads { λ r. ⌜ ReadsAs r (now (out .exit)) (wantedObjects (held (now (store .entry)))) ⌝ }
+    ensures only { λ r. ⌜ made r (λ _. Only-wanted (held (now (store .entry)))) ⌝ }
+    ensures once { λ r. ⌜ made r (λ _. Each-once (valueOf (held (now (store .entry)) 0xDF_8112))) ⌝ }
 {
     if list.len() < 64 {
         return Err(ReadoutRefusal::Short);

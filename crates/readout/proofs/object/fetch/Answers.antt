@@ -1,4 +1,4 @@
-use mathlib.Core.Path.{_≡_, refl, sym, ap, subst}
+use mathlib.Core.Path.{subst}
 use Rattle.std.specs.declared.option.Option.the-variants.{Some}
 use Rattle.readout.specs.Steps.{Fetched}
 use Rattle.readout.proofs.Written.{fetched}

@@ -1,4 +1,4 @@
-use mathlib.Core.Path.{_≡_, refl}
+use mathlib.Core.Path.{refl}
 use native.Mathlib.Omega.{arith}
 use Rattle.readout.proofs.Series.{size-more, onward, done}
 use Rattle.readout.proofs.object.put_objects.Needs as need

@@ -1,5 +1,5 @@
 use mathlib.Core.Path.{_≡_}
-use lib.ListN.{length, take}
+use lib.ListN.{take}
 use Rattle.readout.specs.Listing.{numbers}
 use Rattle.readout.proofs.tags.copy_numbers.Given as given
 

@@ -1,11 +1,10 @@
-use mathlib.Core.Path.{_≡_, refl, sym, ap, _∙_, subst}
-use mathlib.Core.List.{[]}
+use mathlib.Core.Path.{sym, ap, _∙_, subst}
 use native.Mathlib.Omega.{arith}
-use lib.ListN.{length, take}
+use lib.ListN.{length}
 use Rattle.std.specs.declared.result.Result.the-variants.{Ok}
 use Rattle.keyed.specs.Elements.{elements, memory}
-use Rattle.readout.specs.Listing.{numbers, AllTags, goesOn}
-use Rattle.readout.specs.Wanted.{wantedTags}
+use Rattle.readout.specs.Shown.{AllTags}
+use Rattle.readout.specs.Listing.{numbers, goesOn}
 use Rattle.readout.proofs.Taking.{start, front-is, take-within}
 use Rattle.readout.proofs.tags.read_tags.Needs as need
 

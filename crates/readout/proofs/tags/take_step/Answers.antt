@@ -1,7 +1,8 @@
-use mathlib.Core.Path.{_≡_, refl, sym, ap, _∙_, subst}
+use mathlib.Core.Path.{refl, sym, ap, subst}
 use lib.ListN.{length}
 use Rattle.keyed.specs.Elements.{elements, memory}
-use Rattle.readout.specs.Listing.{end, filler, fault, want, numbers, AllTags}
+use Rattle.readout.specs.Shown.{AllTags}
+use Rattle.readout.specs.Listing.{end, filler, fault, want, numbers}
 use Rattle.readout.proofs.Taking.{at-end, at-filler, at-fault, less, went, full-step}
 use Rattle.readout.proofs.tags.take_step.Needs as need
 
@@ -38,7 +39,7 @@ returns-in-Full c =
     let xs = elements (c .args .list .now) in
     let q = c .in-Want .ensures tt .value in
     record {
-      step = full-step (c .args .end) xs xs (c .args .text .now) (c .in-Some .tag) (c .in-Want .number) (c .in-Want .at) (c .in-Want .after .now) (length (memory (c .args .list .now))) q (c .in-Some .ensures tt) (c .pre) (c .in-Full .ensures tt .answer);
+      step = full-step (c .args .end) xs (c .args .text .now) (c .in-Some .tag) (c .in-Want .number) (c .in-Want .at) (c .in-Want .after .now) (length (memory (c .args .list .now))) q (c .in-Some .ensures tt) (c .pre) (c .in-Full .ensures tt .answer);
       tags = λ ts. subst AllTags (sym (ap numbers (c .in-Full .ensures tt .elements))) ts;
       room = c .in-Full .ensures tt .room;
       named = c .in-Full .ensures tt .named;

@@ -1,7 +1,8 @@
 use mathlib.Core.Path.{_≡_}
 use lib.ListN.{length}
 use Rattle.keyed.specs.Elements.{elements, memory}
-use Rattle.readout.specs.Listing.{numbers, AllTags, goesOn}
+use Rattle.readout.specs.Shown.{AllTags}
+use Rattle.readout.specs.Listing.{numbers, goesOn}
 use Rattle.readout.proofs.tags.take_tags.Given as given
 
 abbrev pub Inv-loop-after : given.InvT-loop-after

@@ -1,12 +1,13 @@
-use mathlib.Core.Path.{_≡_, refl, sym, ap, _∙_, subst}
+use mathlib.Core.Path.{_≡_, ap, _∙_, subst}
 use Prim.Native.Nat.{_-_}
 use native.Mathlib.Omega.{arith}
 use lib.ListN.{length, take}
 use Rattle.readout.specs.declared.object.Absent.the-variants.{Empty}
 use Rattle.readout.specs.Shown.{objectsAt, bytesOf, ReadsAs}
 use Rattle.readout.specs.Output.{fitAnswer, writeAfter}
-use Rattle.readout.specs.Wanted.{wantedObjects, onTags}
-use Rattle.readout.proofs.Each.{wanted-is, where-written}
+use Rattle.readout.specs.Wanted.{wantedObjects, onTags, valueOf}
+use Rattle.readout.proofs.Each.{wanted-is, only-wanted, where-written}
+use Rattle.readout.proofs.Once.{each-once}
 use Rattle.readout.proofs.wanted.write_listed.Needs as need
 
 pub returns-in-Ok : need.returns-in-Ok
@@ -22,5 +23,6 @@ returns-in-Ok g c =
       answer = c .write-objects .ensures .answer ∙ ap (λ xs. fitAnswer (bytesOf xs) (length out)) e ∙ ap (λ w. onTags w (wantedObjects m) (length out)) (c .in-Ok .ensures tt .value);
       after = c .write-objects .ensures .after ∙ ap (λ xs. writeAfter r (bytesOf xs) out) e;
       reads = subst (λ xs. ReadsAs r (c .write-objects .last .out) xs) e (c .write-objects .ensures .reads);
-      only = where-written r m;
+      only = where-written r (only-wanted m);
+      once = where-written r (each-once (valueOf (m 0xDF_8112)));
     }
