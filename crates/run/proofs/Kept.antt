@@ -101,7 +101,6 @@ own-refusal-same begun share m m′ text same =
     (total-agree (TerminalWrite begun) (storedText text m) (storedText text m′) (λ t h. written-same m m′ text same t (terminal-own begun t h)))
 
 pub write-same : (share : ℕ) (m m′ : Map) (begun : Bool) (text : List ℕ) (work : ℕ) → SameOwn m m′ → writeRefusal share m begun text work ≡ writeRefusal share m′ begun text work
-unfolding writeRefusal
 write-same share m m′ begun text work same = ap (first (shortList work)) (own-refusal-same begun share m m′ text same)
 
 pub begin-same : (m m′ : Map) (begun : Bool) (buffer work : ℕ) → SameOwn m m′ → beginRefusal m begun buffer work ≡ beginRefusal m′ begun buffer work

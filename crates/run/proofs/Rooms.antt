@@ -66,7 +66,6 @@ fine k share held text h = by (judged k held text) refl h
     by (Ok tt) is h′ = record { accepted = is; within = share-kept (ltb share (writerTotal k (storedText text held))) refl h′ }
 
 pub roomy-write : (b : Meaning) (text : List ℕ) (work : ℕ) → Roomy b → writeRefusal (b .shares .terminal) (b .held) (b .begun) text work ≡ None → Roomy (holding b (storedText text (b .held)))
-unfolding writeRefusal
 roomy-write b text work r none =
     let f = fine (TerminalWrite (b .begun)) (b .shares .terminal) (b .held) text (first-last (shortList work) (ownRefusal (TerminalWrite (b .begun)) (b .shares .terminal) (b .held) text) none) in
     roomy-stored (b .shares) (b .limits .objects) (b .limits .bytes) (TerminalWrite (b .begun)) (b .held) text (placesRead (meaning text))

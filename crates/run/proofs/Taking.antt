@@ -50,7 +50,6 @@ text-taken s k work held text = by (ltb work mostObjects)
     by false = own-taken (shareOf s k) (writerTotal k (storedText text held)) (judged k held text)
 
 pub write-taken : (s : Shares) (held : Map) (begun : Bool) (text : List ℕ) (work : ℕ) → writeRefusal (s .terminal) held begun text work ≡ takeRefusal (takeAnswer s (TerminalWrite begun) work held text)
-unfolding writeRefusal
 write-taken s held begun text work = text-taken s (TerminalWrite begun) work held text
 
 -- a text of the card's, where the work list is long enough

@@ -34,7 +34,7 @@ refused-after None m next e none h = let z : _≡_ {A = Option Refusal} None (So
 refused-after (Some f) m next e none h = refl
 
 pub unchanged : Refused-calls-change-nothing
-unfolding writeCall beginCall answerCall linkCall stopCall clearCall
+unfolding beginCall answerCall
 unchanged m (write text work) e h =
     refused-after (first (notOpen m) (writeRefusal (m .shares .terminal) (m .held) (m .begun) text work)) m (record { reply = taken; after = holding m (storedText text (m .held)) }) e refl h
 unchanged m (begin fci buffer work) e h =
@@ -78,12 +78,10 @@ roomy-opened n m shares text work all =
 
 -- so it is a start, from a store with room
 is-start : (shares : Shares) (text : List ℕ) (m : Meaning) → (o : Opened shares text m) → m ≡ start (configured shares text) (o .before .limits)
-unfolding openOver
 is-start shares text m o =
     o .is ∙ taken-after (openRefusal (count (o .before .held)) (o .before) shares text (o .work)) (o .before) (opening (o .before) shares text) (o .replied)
 
 has-room : (shares : Shares) (text : List ℕ) (m : Meaning) → (o : Opened shares text m) → Roomy (start (configured shares text) (o .before .limits))
-unfolding openOver
 has-room shares text m o =
     roomy-opened (count (o .before .held)) (o .before) shares text (o .work)
     (taken-none (openRefusal (count (o .before .held)) (o .before) shares text (o .work)) (o .before) (opening (o .before) shares text) (o .replied))
@@ -93,7 +91,6 @@ opens shares text m o =
     subst (Stands (configured shares text) []) (sym (is-start shares text m o)) (starts (configured shares text) (o .before .limits) (has-room shares text m o))
 
 pub unopened : Refused-opening-changes-nothing
-unfolding openOver
 unopened m shares text work e h = refused-after (openRefusal (count (m .held)) m shares text work) m (opening m shares text) e refl h
 
 pub stand : Readers-stand

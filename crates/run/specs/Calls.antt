@@ -100,11 +100,11 @@ ownRefusal k share held text =
     onJudgement (judged k held text) (refuseIf (ltb share (writerTotal k (storedText text held))) OverShare)
 
 -- How a terminal write is refused: by the terminal's share, what is held, the begun mark, its text and its work list.
-unfoldable pub writeRefusal : ℕ → Map → Bool → List ℕ → ℕ → Option Refusal
+abbrev pub writeRefusal : ℕ → Map → Bool → List ℕ → ℕ → Option Refusal
 writeRefusal share held begun text work = first (shortList work) (ownRefusal (TerminalWrite begun) share held text)
 
 -- Terminal write: the text is stored.
-unfoldable pub writeCall : Meaning → List ℕ → ℕ → Done
+abbrev pub writeCall : Meaning → List ℕ → ℕ → Done
 writeCall m text work =
     checked (first (notOpen m) (writeRefusal (m .shares .terminal) (m .held) (m .begun) text work)) m
     (record { reply = taken; after = holding m (storedText text (m .held)) })
@@ -169,13 +169,13 @@ abbrev pub wrongCode : ℕ → Option Refusal
 wrongCode code = refuseIf (eqb code 0 || ltb 3 code) LinkCode
 
 -- Link fault.
-unfoldable pub linkCall : Meaning → ℕ → Done
+abbrev pub linkCall : Meaning → ℕ → Done
 linkCall m code =
     checked (first (notOpen m) (first (wrongCode code) (noCommand m))) m
     (follow m (fails (Link code) (m .held)))
 
 -- Stop.
-unfoldable pub stopCall : Meaning → Done
+abbrev pub stopCall : Meaning → Done
 stopCall m = checked (first (notOpen m) (noCommand m)) m (follow m (fails Stopped (m .held)))
 
 -- only the configuration's objects are held, and no run has begun
@@ -183,7 +183,7 @@ abbrev pub readyAgain : Meaning → Meaning
 readyAgain m = record { opened = m .opened; limits = m .limits; shares = m .shares; held = cleared (m .held); begun = false; phase = ready; count = 0 }
 
 -- Clear.
-unfoldable pub clearCall : Meaning → Done
+abbrev pub clearCall : Meaning → Done
 clearCall m = checked (notOpen m) m (record { reply = taken; after = readyAgain m })
 
 -- Each call.
@@ -231,7 +231,7 @@ openRefusal n m shares text work =
     (ownRefusal Configuration (shares .configuration) empty text)))
 
 -- Opening, over a store that holds n objects.
-unfoldable pub openOver : ℕ → Meaning → Shares → List ℕ → ℕ → Done
+abbrev pub openOver : ℕ → Meaning → Shares → List ℕ → ℕ → Done
 openOver n m shares text work =
     checked (openRefusal n m shares text work) m
     (record { reply = taken; after = start (configured shares text) (m .limits) })
@@ -249,7 +249,7 @@ outcomeBy (awaitsCryptogram c) n = Err NoOutcome
 outcomeBy (ended o) n = Ok (record { outcome = o; commands = n })
 
 -- What can be read: the outcome, with the number of commands,
-unfoldable pub outcomeRead : Meaning → Result OutcomeReport Refusal
+abbrev pub outcomeRead : Meaning → Result OutcomeReport Refusal
 outcomeRead m = cond (m .opened) (outcomeBy (m .phase) (m .count)) (Err NotOpen)
 
 -- always the number of the phase,
