@@ -1,0 +1,3 @@
+// The stages of a run, as functions over any store.
+pub mod brought;
+pub mod outer;
