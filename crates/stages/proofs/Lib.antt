@@ -1,3 +1,4 @@
 pub mod Bringing
 pub mod Missings
 pub mod Cards
+pub mod Commanding

@@ -1,2 +1,3 @@
 pub mod Brought
 pub mod Courses
+pub mod Nexts
