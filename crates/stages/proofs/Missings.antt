@@ -3,6 +3,7 @@ use mathlib.Core.Path.{_≡_, refl, sym, ap, _∙_}
 use mathlib.Core.Bool.{true, false, cond}
 use mathlib.Core.List.{List, [], _∷_}
 use Prim.Native.Nat.{ℕ, _+_, _<_}
+use native.Mathlib.Omega.{arith}
 use lib.Dec.{ltb}
 use lib.ListN.{length, getD, drop}
 use Rattle.std.proofs.shelf.Lists.{at-drop-more}
@@ -29,3 +30,8 @@ module _ (m : Map) (ts : List ℕ) (i d : ℕ) (h : i < length ts) where
 
   pub stops : hasValue (m (getD ts i d)) ≡ false → Some (getD ts i d) ≡ firstMissing (drop i ts) m
   stops e = sym (turn ∙ cond-false (hasValue (m (getD ts i d))) (firstMissing (drop (i + 1) ts) m) (Some (getD ts i d)) e)
+
+-- no bytes have no first one
+pub no-first : (v : List ℕ) → length v ≡ 0 → 0 ≡ getD v 0 0
+no-first [] e = refl
+no-first (b ∷ bs) e = absurd (omega (arith, e))

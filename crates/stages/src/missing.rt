@@ -3,10 +3,11 @@ ghost use mathlib.Core.Path.{_≡_};
 ghost use Rattle.store.specs.Map.{empty};
 ghost use Rattle.judge.specs.Rules.{hasValue};
 ghost use Rattle.keeping.specs.Keeping.{stored};
-ghost use Rattle.run.specs.Run.{firstMissing};
+ghost use Rattle.run.specs.Run.{firstMissing, missing};
 use crate::brought::brought;
 use judge::held::has_value;
 use keyed::tag::Tag;
+use run::fault::Cause;
 use store::reading::ReadStore;
 use tlv::place::Place;
 
@@ -56,4 +57,14 @@ pub fn first_missing<S: ReadStore>(store: &S, tags: &[u32]) -> Option<u32>
     ensures { λ r. ⌜ r ≡ firstMissing (now (tags .entry)) (S·ReadStore .held (now (store .entry))) ⌝ }
 {
     first_not_held(store, tags)
+}
+
+// The cause of a tag that has no value.
+pub(crate) fn missing_cause(tag: Option<u32>) -> Option<Cause>
+    ensures { λ r. ⌜ r ≡ missing tag ⌝ }
+{
+    match tag {
+        Some(tag) => Some(Cause::Missing(tag)),
+        None => None,
+    }
 }
