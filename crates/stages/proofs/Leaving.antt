@@ -8,7 +8,7 @@ use Rattle.std.specs.declared.option.Option.the-variants.{Some}
 use Rattle.keyed.specs.declared.record.Record.{Record}
 use Rattle.store.specs.Map.{Map}
 use Rattle.commands.specs.Commands.{readRecord}
-use Rattle.run.specs.Run.{handsOut, firstRecord, afterRecord}
+use Rattle.run.specs.Run.{handsOut, unless, missing, firstMissing, firstRecord, verified, decides, afterRecord}
 use Rattle.stages.specs.Nexts.{awaiting}
 
 pub first-of : (rs : List Record) (n : ℕ) (d : Record) (held : Map) → 0 < n → 0 < length rs
@@ -26,3 +26,9 @@ pub next-of : (rs : List Record) (d : Record) (held brought : Map) → 0 < lengt
 unfolding afterRecord
 next-of [] d held brought a = absurd (omega (arith, a))
 next-of (r ∷ rs) d held brought a = ap (λ l. handsOut (readRecord r) (awaiting (r ∷ l)) held) (take-whole rs)
+
+pub none-left : (rs : List Record) (held brought : Map) → length rs ≡ 0
+    → unless (missing (firstMissing (0x5A ∷ 0x5F24 ∷ []) held)) held (decides (verified held)) ≡ afterRecord rs held brought
+unfolding afterRecord
+none-left [] held brought e = refl
+none-left (r ∷ rs) held brought e = absurd (omega (arith, e))

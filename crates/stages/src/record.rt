@@ -75,3 +75,61 @@ fn ask_decided<S: ReadStore>(store: &S, buffer: &mut [u8]) -> Result<Next, Cause
     let command = ask_cryptogram(store, requested, buffer)?;
     Ok(Next::Cryptogram { command, requested })
 }
+
+// After the last record 5A and 5F24 must have values.
+fn records_missing<S: ReadStore>(store: &S) -> Option<Cause>
+    ensures { λ r. ⌜ ((left : List Record) → length left ≡ 0 → (brought : Map) → unless r (S·ReadStore .held (now (store .entry))) (decides (verified (S·ReadStore .held (now (store .entry))))) ≡ afterRecord left (S·ReadStore .held (now (store .entry))) brought) ⌝ }
+{
+    missing_cause(first_missing(store, &[0x5A, 0x5F24]))
+}
+
+// The Terminal Verification Results are put, and GENERATE AC asks for what is decided by them.
+fn put_and_ask<S: WriteStore>(store: &mut S, buffer: &mut [u8]) -> Result<Next, Cause>
+    ensures course { λ r. ⌜ (261 ≤ length (now (buffer .entry)) → (s : Shares) → Roomy s (S·ReadStore .objects (now (store .entry))) (S·ReadStore .bytes (now (store .entry))) (S·ReadStore .held (now (store .entry))) → (records : List Record) → courseOf r (now (buffer .exit)) records (S·ReadStore .held (now (store .exit))) ≡ decides (verified (S·ReadStore .held (now (store .entry))))) ⌝ }
+    ensures rest { λ r. ⌜ drop (commandLength r) (now (buffer .exit)) ≡ drop (commandLength r) (now (buffer .entry)) ⌝ }
+    ensures roomy { λ _. ⌜ ((s : Shares) → Roomy s (S·ReadStore .objects (now (store .entry))) (S·ReadStore .bytes (now (store .entry))) (S·ReadStore .held (now (store .entry))) → Roomy s (S·ReadStore .objects (now (store .exit))) (S·ReadStore .bytes (now (store .exit))) (S·ReadStore .held (now (store .exit)))) ⌝ }
+    ensures limits { λ _. ⌜ S·ReadStore .objects (now (store .exit)) ≡ S·ReadStore .objects (now (store .entry)) ⌝ ∗ ⌜ S·ReadStore .bytes (now (store .exit)) ≡ S·ReadStore .bytes (now (store .entry)) ⌝ }
+{
+    put_verification_results(store, results_of(store));
+    ask_decided(store, buffer)
+}
+
+// After the last record: the decision, where 5A and 5F24 have values.
+fn after_last<S: WriteStore>(store: &mut S, buffer: &mut [u8]) -> Result<Next, Cause>
+    ensures course { λ r. ⌜ (261 ≤ length (now (buffer .entry)) → (s : Shares) → Roomy s (S·ReadStore .objects (now (store .entry))) (S·ReadStore .bytes (now (store .entry))) (S·ReadStore .held (now (store .entry))) → (left : List Record) → length left ≡ 0 → (brought : Map) → courseOf r (now (buffer .exit)) left (S·ReadStore .held (now (store .exit))) ≡ afterRecord left (S·ReadStore .held (now (store .entry))) brought) ⌝ }
+    ensures rest { λ r. ⌜ drop (commandLength r) (now (buffer .exit)) ≡ drop (commandLength r) (now (buffer .entry)) ⌝ }
+    ensures roomy { λ _. ⌜ ((s : Shares) → Roomy s (S·ReadStore .objects (now (store .entry))) (S·ReadStore .bytes (now (store .entry))) (S·ReadStore .held (now (store .entry))) → Roomy s (S·ReadStore .objects (now (store .exit))) (S·ReadStore .bytes (now (store .exit))) (S·ReadStore .held (now (store .exit)))) ⌝ }
+    ensures limits { λ _. ⌜ S·ReadStore .objects (now (store .exit)) ≡ S·ReadStore .objects (now (store .entry)) ⌝ ∗ ⌜ S·ReadStore .bytes (now (store .exit)) ≡ S·ReadStore .bytes (now (store .entry)) ⌝ }
+{
+    if let Some(cause) = records_missing(store) {
+        return Err(cause);
+    }
+    put_and_ask(store, buffer)
+}
+
+// READ RECORD for the first of the records left to be read.
+fn ask_next(left: &[Record], buffer: &mut [u8]) -> Result<Next, Cause>
+    requires { ⌜ (length (now left) ≡ 0 → ⊥) ⌝ }
+    ensures course { λ r. ⌜ (261 ≤ length (now (buffer .entry)) → (held brought : Map) → courseOf r (now (buffer .exit)) (now (left .entry)) held ≡ afterRecord (now (left .entry)) held brought) ⌝ }
+    ensures rest { λ r. ⌜ drop (commandLength r) (now (buffer .exit)) ≡ drop (commandLength r) (now (buffer .entry)) ⌝ }
+{
+    ask_first(left[0], left.len(), buffer)
+}
+
+// READ RECORD for the next of the records left to be read; after the last one the Terminal Verification Results are put,
+// and GENERATE AC asks for what is decided. The command buffer has at least 261 bytes.
+pub fn after_record<S: WriteStore>(
+    store: &mut S,
+    left: &[Record],
+    buffer: &mut [u8],
+) -> Result<Next, Cause>
+    ensures course { λ r. ⌜ (261 ≤ length (now (buffer .entry)) → (s : Shares) → Roomy s (S·ReadStore .objects (now (store .entry))) (S·ReadStore .bytes (now (store .entry))) (S·ReadStore .held (now (store .entry))) → (brought : Map) → courseOf r (now (buffer .exit)) (now (left .entry)) (S·ReadStore .held (now (store .exit))) ≡ afterRecord (now (left .entry)) (S·ReadStore .held (now (store .entry))) brought) ⌝ }
+    ensures rest { λ r. ⌜ drop (commandLength r) (now (buffer .exit)) ≡ drop (commandLength r) (now (buffer .entry)) ⌝ }
+    ensures roomy { λ _. ⌜ ((s : Shares) → Roomy s (S·ReadStore .objects (now (store .entry))) (S·ReadStore .bytes (now (store .entry))) (S·ReadStore .held (now (store .entry))) → Roomy s (S·ReadStore .objects (now (store .exit))) (S·ReadStore .bytes (now (store .exit))) (S·ReadStore .held (now (store .exit)))) ⌝ }
+    ensures limits { λ _. ⌜ S·ReadStore .objects (now (store .exit)) ≡ S·ReadStore .objects (now (store .entry)) ⌝ ∗ ⌜ S·ReadStore .bytes (now (store .exit)) ≡ S·ReadStore .bytes (now (store .entry)) ⌝ }
+{
+    if left.len() == 0 {
+        return after_last(store, buffer);
+    }
+    ask_next(left, buffer)
+}
