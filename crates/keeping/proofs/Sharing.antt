@@ -37,11 +37,11 @@ module _ (text : List ℕ) (ps : List Place) (i : ℕ) (d : Place) (h : i < leng
   length-other k ne f =
       ap (lengthAfter text (drop (i + 1) ps) t) (f ∙ sym (cond-false (eqb (getD ps i d .tag) t) (length (valueAt text (getD ps i d))) n (ne-eqb (getD ps i d .tag) t ne))) ∙ sym step
 
-passes-by : (text : List ℕ) (p : Place) (t : ℕ) (o : Option (List ℕ)) (x : Option Entry) → eqb (p .tag) t ≡ false → lastBy text p t o x ≡ o
+pub passes-by : (text : List ℕ) (p : Place) (t : ℕ) (o : Option (List ℕ)) (x : Option Entry) → eqb (p .tag) t ≡ false → lastBy text p t o x ≡ o
 passes-by text p t o None e = refl
 passes-by text p t o (Some y) e = cond-false (eqb t (p .tag)) (Some (valueAt text p)) o (ne-eqb t (p .tag) (λ q. eqb-false (p .tag) t e (sym q)))
 
-meets : (text : List ℕ) (p : Place) (t : ℕ) (e : Entry) (o : Option (List ℕ)) → entryOf t ≡ Some e → eqb (p .tag) t ≡ true → lastBy text p t o (entryOf (p .tag)) ≡ Some (valueAt text p)
+pub meets : (text : List ℕ) (p : Place) (t : ℕ) (e : Entry) (o : Option (List ℕ)) → entryOf t ≡ Some e → eqb (p .tag) t ≡ true → lastBy text p t o (entryOf (p .tag)) ≡ Some (valueAt text p)
 meets text p t e o known here =
     let same : p .tag ≡ t = eqb-true (p .tag) t here in
     ap (lastBy text p t o) (ap entryOf same ∙ known) ∙ cond-true (eqb t (p .tag)) (Some (valueAt text p)) o (eq-eqb t (p .tag) (sym same))
