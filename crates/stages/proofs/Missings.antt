@@ -4,21 +4,13 @@ use mathlib.Core.Bool.{true, false, cond}
 use mathlib.Core.List.{List, [], _∷_}
 use Prim.Native.Nat.{ℕ, _+_, _<_}
 use native.Mathlib.Omega.{arith}
-use lib.Dec.{ltb}
 use lib.ListN.{length, getD, drop}
 use Rattle.std.proofs.shelf.Lists.{at-drop-more}
 use Rattle.std.proofs.shelf.Tests.{cond-true, cond-false}
-use Rattle.std.specs.declared.option.Option.{Option}
-use Rattle.std.specs.declared.option.Option.the-variants.{Some, None}
+use Rattle.std.specs.declared.option.Option.the-variants.{Some}
 use Rattle.store.specs.Map.{Map}
 use Rattle.judge.specs.Rules.{hasValue}
-use Rattle.commands.specs.Commands.{bytes}
 use Rattle.run.specs.Run.{firstMissing}
-
--- a value is there if it has bytes
-pub has-bytes : (o : Option (List ℕ)) → hasValue o ≡ ltb 0 (length (bytes o))
-has-bytes None = refl
-has-bytes (Some v) = refl
 
 -- one turn of the loop over the tags
 module _ (m : Map) (ts : List ℕ) (i d : ℕ) (h : i < length ts) where

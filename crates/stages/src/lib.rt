@@ -1,4 +1,5 @@
 // The stages of a run, as functions over any store.
+pub mod answer;
 mod ask;
 pub mod brought;
 pub mod card;
