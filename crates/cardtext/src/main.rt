@@ -1,4 +1,6 @@
 // Reads card texts, one to a line, and prints what is in them and how they would be taken.
+#![tactic(auto)]
+
 ghost use Rattle.std.specs.Prelude.{◌≡◌, IfOk};
 ghost use Rattle.cardtext.specs.Lines.{all_blank, is_comment, line_printed, line_read, line_told, without_feed};
 

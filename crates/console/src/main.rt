@@ -1,5 +1,7 @@
 // A console over a reader and its store: it reads lines, makes the store that a line asks for, and prints what the
 // reader, the store and the parts of a sale answer.
+#![tactic(auto)]
+
 use afl::locator::read_afl;
 use commands::generate::generate_ac;
 use commands::options::get_processing_options;

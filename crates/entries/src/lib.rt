@@ -1,4 +1,6 @@
 // What the stores in the caller's memory share: a list of entries as a map, and copying a value out.
+#![tactic(auto)]
+
 ghost use Rattle.std.specs.Prelude.{◌≡◌, length, Some};
 ghost use Rattle.store.specs.Answer.{copy_answer, copy_after};
 

@@ -1,3 +1,5 @@
 // What the pump's host reads out of a reader.
+#![tactic(auto)]
+
 pub mod read;
 mod refusal;

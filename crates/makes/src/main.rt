@@ -1,4 +1,6 @@
 // One list of puts and drops over new stores of each make, side by side.
+#![tactic(auto)]
+
 mod beside;
 
 use crate::beside::{directory_beside_strip, masked_beside, twice_masked_beside};

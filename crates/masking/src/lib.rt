@@ -1,4 +1,6 @@
 // A store over another, of any make: values are kept masked in the store below.
+#![tactic(auto)]
+
 ghost use Rattle.std.specs.Prelude.{◌≡◌, ◌+◌, ◌%◌, slice_index};
 ghost use Rattle.store.specs.Map.{empty};
 ghost use Rattle.masking.specs.Mask.{masked, unmasked, MasksEachByte};

@@ -1,2 +1,4 @@
 // The lines that the console answers with.
+#![tactic(auto)]
+
 pub mod reply;

@@ -1,4 +1,6 @@
 // The worked runs.
+#![tactic(auto)]
+
 ghost use Rattle.std.specs.Prelude.{◌≡◌, length};
 ghost use Rattle.runs.specs.Worked.{Worked, table};
 

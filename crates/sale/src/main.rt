@@ -1,5 +1,7 @@
 // Sample sales: a card whose label is empty is served; a card whose record carries the tag of our floor limit is turned
 // away, and the floor limit is unmoved; and both cards at two readers side by side, over stores of two makes.
+#![tactic(auto)]
+
 mod texts;
 
 use crate::texts::{

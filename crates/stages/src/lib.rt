@@ -1,4 +1,6 @@
 // The stages of a run, as functions over any store.
+#![tactic(auto)]
+
 pub mod answer;
 mod ask;
 pub mod brought;

@@ -1,4 +1,6 @@
 // The worked examples of a sale: one table, proved by one theorem over the definitions.
+#![tactic(auto)]
+
 ghost use Rattle.std.specs.Prelude.{◌≡◌, ◌+◌, length};
 ghost use Rattle.tlv.specs.Worked.{table as texts};
 ghost use Rattle.worked.specs.Worked.{table, Worked};
