@@ -8,7 +8,7 @@ use crate::key::Keyed;
 
 // Whether one of the items has the key of `x`.
 fn any_same<T: Keyed>(items: &[T], x: &T) -> bool
-    ensures { result ≡ holds (by key same) items.now x.now }
+    ensures { result ≡ holds (by T.key T.same) items.now x.now }
 {
     for y in items {
         if y.same_key(x) {
@@ -20,8 +20,8 @@ fn any_same<T: Keyed>(items: &[T], x: &T) -> bool
 
 // The same, and that items with the key of `x` are looked for alike.
 fn look_for<T: Keyed>(items: &[T], x: &T) -> bool
-    ensures value { result ≡ holds (by key same) items.now x.now }
-    ensures alike { (y : T) → same (key x.now) (key y) ≡ true → result ≡ holds (by key same) items.now y }
+    ensures value { result ≡ holds (by T.key T.same) items.now x.now }
+    ensures alike { (y : T) → T.same (T.key x.now) (T.key y) ≡ true → result ≡ holds (by T.key T.same) items.now y }
 {
     any_same(items, x)
 }
@@ -32,8 +32,8 @@ fn put<T: Keyed + Copy>(items: &mut [T], n: usize, x: T)
     ensures memory { items.new ≡ slice_set items.old n x }
     ensures front { take (n + 1) items.new ≡ take n items.old ++ x ∷ [] }
     ensures len { length (take n items.old) ≡ n }
-    ensures distinct { holds (by key same) (take n items.old) x ≡ false → Distinct (by key same) (take n items.old) → Distinct (by key same) (take (n + 1) items.new) }
-    ensures there { holds (by key same) (take (n + 1) items.new) x ≡ true }
+    ensures distinct { holds (by T.key T.same) (take n items.old) x ≡ false → Distinct (by T.key T.same) (take n items.old) → Distinct (by T.key T.same) (take (n + 1) items.new) }
+    ensures there { holds (by T.key T.same) (take (n + 1) items.new) x ≡ true }
 {
     items[n] = x;
 }
@@ -85,8 +85,8 @@ impl<'a, T> KeyedList<'a, T> {
 impl<'a, T: Keyed> KeyedList<'a, T> {
     // Whether an element has the key of `x`.
     pub fn contains(&self, x: &T) -> bool
-        ensures value { result ≡ holds (by key same) (elements self.now) x.now }
-        ensures alike { (y : T) → same (key x.now) (key y) ≡ true → result ≡ holds (by key same) (elements self.now) y }
+        ensures value { result ≡ holds (by T.key T.same) (elements self.now) x.now }
+        ensures alike { (y : T) → T.same (T.key x.now) (T.key y) ≡ true → result ≡ holds (by T.key T.same) (elements self.now) y }
     {
         look_for(self.as_slice(), x)
     }
@@ -95,12 +95,12 @@ impl<'a, T: Keyed> KeyedList<'a, T> {
 impl<'a, T: Keyed + Copy> KeyedList<'a, T> {
     // Puts `x` at the end, unless an element of equal key is there or the list is full.
     pub fn add(&mut self, x: T) -> Addition
-        ensures answer { result ≡ answer (by key same) (length (memory self.old)) (elements self.old) x }
+        ensures answer { result ≡ answer (by T.key T.same) (length (memory self.old)) (elements self.old) x }
         ensures elements { elements self.new ≡ grown result (elements self.old) x }
         ensures memory { memory self.new ≡ stored result (memory self.old) (length (elements self.old)) x }
         ensures room { length (memory self.new) ≡ length (memory self.old) }
-        ensures distinct { Distinct (by key same) (elements self.old) → Distinct (by key same) (elements self.new) }
-        ensures there { (result ≢ Addition.Full) → holds (by key same) (elements self.new) x ≡ true }
+        ensures distinct { Distinct (by T.key T.same) (elements self.old) → Distinct (by T.key T.same) (elements self.new) }
+        ensures there { (result ≢ Addition.Full) → holds (by T.key T.same) (elements self.new) x ≡ true }
         ensures named { self.new.items.ghost_name ≡ self.old.items.ghost_name }
     {
         if self.contains(&x) {

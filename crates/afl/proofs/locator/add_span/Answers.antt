@@ -22,8 +22,8 @@ loop-number-preserved c =
           ∙ inv.2,
     )
 
-pub returns-in-default : goal.returns-in-default
-returns-in-default c =
+pub returns-in_default : goal.returns-in_default
+returns-in_default c =
     let inv = c.loop-number.invariant in
     let room = length (memory c.args.list.now) in
     let held = elements c.loop-number.list in
@@ -31,7 +31,7 @@ returns-in-default c =
     let n = c.loop-number.number in
     record {
       added = stopped room held s n (c.args.span.last + 1) c.loop-number-test.true
-          (λ a. c.in-default.not-Added (c.add.ensures.answer ∙ ap (λ k. answer record_same k held (record_at s n)) inv.1 ∙ a)) ∙ inv.2;
+          (λ a. c.in_default.not-Added (c.add.ensures.answer ∙ ap (λ k. answer record_same k held (record_at s n)) inv.1 ∙ a)) ∙ inv.2;
       room = c.add.ensures.room ∙ inv.1;
       named = c.add.ensures.named ∙ inv.0;
     }

@@ -15,8 +15,8 @@ more text xs ys ps i less wrote =
 
 pub loop-place-preserved : goal.loop-place-preserved
 loop-place-preserved c =
-    more c.args.text.now (vec_items c.loop-place.out) (vec_items c.push-object.new.out) c.args.places.now c.loop-place.place-index
-    c.loop-place-test.true c.in-ok-push-object.ensures.items
+    more c.args.text.now (vec_items c.loop-place.out) (vec_items c.push_object.new.out) c.args.places.now c.loop-place.place-index
+    c.loop-place-test.true c.in_ok-push_object.ensures.items
     ∙ c.loop-place.invariant
 
 pub returns : goal.returns

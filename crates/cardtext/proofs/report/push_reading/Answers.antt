@@ -6,19 +6,19 @@ use Rattle.cardtext.proofs.Joining.{always, read_well, same_reading}
 use Rattle.cardtext.proofs.Telling.{each_told}
 use Rattle.cardtext.proofs.report.push_reading.Goals as goal
 
-pub returns-in-ok-push-objects : goal.returns-in-ok-push-objects
-returns-in-ok-push-objects c =
+pub returns-in_ok-push_objects : goal.returns-in_ok-push_objects
+returns-in_ok-push_objects c =
     let n = c.in-Ok.n in
-    let places = c.read-text.new.list in
+    let places = c.read_text.new.list in
     let text = c.args.text.now in
     let meant : meaning text ≡ found (take (n - 0) places) =
     same_reading _ _ c.in-Ok.ensures.read ∙ ap (λ k. found (take k places)) (sym (sub-zero n)) in
     record {
       items =
-          IfOk-weaker c.push-takings.result _ _
+          IfOk-weaker c.push_takings.result _ _
           (λ x e.
-          read_well text (vec_items c.args.out.now) (vec_items c.push-objects.new.out) (take (n - 0) places) (length places)
-          meant c.read-text.auto.list c.in-ok-push-objects.ensures e)
-          c.push-takings.ensures;
-      each = always c.push-takings.result (each_told text);
+          read_well text (vec_items c.args.out.now) (vec_items c.push_objects.new.out) (take (n - 0) places) (length places)
+          meant c.read_text.auto.list c.in_ok-push_objects.ensures e)
+          c.push_takings.ensures;
+      each = always c.push_takings.result (each_told text);
     }

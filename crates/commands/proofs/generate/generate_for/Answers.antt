@@ -6,17 +6,17 @@ use Rattle.commands.proofs.generate.generate_for.Goals as goal
 pub returns-then-cdol1-ne0 : goal.returns-then-cdol1-ne0
 returns-then-cdol1-ne0 g c =
     let held = g.S.ReadStore.held c.args.store.now in
-    let is = served c.args.kind held c.value-in-cdol1.result.now c.value-in-cdol1.ensures c.if-cdol1-ne0.true in
+    let is = served c.args.kind held c.value_in-cdol1.result.now c.value_in-cdol1.ensures c.if-cdol1-ne0.true in
     record {
-      value = c.generate-with.ensures.value ∙ ap told is;
-      after = c.generate-with.ensures.after ∙ ap (λ r. written r c.args.command.now) is;
+      value = c.generate_with.ensures.value ∙ ap told is;
+      after = c.generate_with.ensures.after ∙ ap (λ r. written r c.args.command.now) is;
     }
 
 pub returns : goal.returns
 returns g c =
     let held = g.S.ReadStore.held c.args.store.now in
-    let is = not_served c.args.kind held c.value-in-cdol1.result.now c.value-in-cdol1-2.result.now c.value-in-cdol1.ensures c.value-in-cdol1-2.ensures c.if-cdol1-ne0.false in
+    let is = not_served c.args.kind held c.value_in-cdol1.result.now c.value_in-cdol1-2.result.now c.value_in-cdol1.ensures c.value_in-cdol1-2.ensures c.if-cdol1-ne0.false in
     record {
-      value = c.generate-with-2.ensures.value ∙ ap told is;
-      after = c.generate-with-2.ensures.after ∙ ap (λ r. written r c.args.command.now) is;
+      value = c.generate_with-2.ensures.value ∙ ap told is;
+      after = c.generate_with-2.ensures.after ∙ ap (λ r. written r c.args.command.now) is;
     }

@@ -10,6 +10,6 @@ unfolding options_command
 returns g c =
     let held = g.S.ReadStore.held c.args.store.now in
     record {
-      value = c.options-with.ensures.value ∙ ap (λ l. told (on_data FaultyList get_options (dol_data held 252 l))) c.value-in-pdol.ensures;
-      after = c.options-with.ensures.after ∙ ap (λ l. written (on_data FaultyList get_options (dol_data held 252 l)) c.args.command.now) c.value-in-pdol.ensures;
+      value = c.options_with.ensures.value ∙ ap (λ l. told (on_data FaultyList get_options (dol_data held 252 l))) c.value_in-pdol.ensures;
+      after = c.options_with.ensures.after ∙ ap (λ l. written (on_data FaultyList get_options (dol_data held 252 l)) c.args.command.now) c.value_in-pdol.ensures;
     }

@@ -13,8 +13,8 @@ returns-then-a-b c =
     let ly : length ys ≡ n = length_padded n c.args.floor.now (omega arith) in
     record {
       value = level_above xs ys c.loop-i.i c.loop-i.above c.loop-i.below (omega (arith, lx)) (lx ∙ sym ly) c.loop-i.invariant.0
-          c.two-digits.result c.two-digits-in-loop-i.result (c.two-digits.ensures.value ∙ ap two_digits c.padded-at.ensures) (c.two-digits-in-loop-i.ensures.value ∙ ap two_digits c.padded-at-in-loop-i.ensures)
-          (bytes_padded n c.args.floor.now (λ k. omega (arith, c.type-inv.floor k))) c.if-a-b.true
+          c.two_digits.result c.two_digits-in-loop-i.result (c.two_digits.ensures.value ∙ ap two_digits c.padded_at.ensures) (c.two_digits-in-loop-i.ensures.value ∙ ap two_digits c.padded_at-in-loop-i.ensures)
+          (bytes_padded n c.args.floor.now (λ k. omega (arith, c.type_inv.floor k))) c.if-a-b.true
           ∙ same_order n c.args.amount.now c.args.floor.now;
       law = never_milder c.args.amount.now c.args.floor.now;
     }
@@ -28,8 +28,8 @@ returns-then-b-a c =
     let ly : length ys ≡ n = length_padded n c.args.floor.now (omega arith) in
     record {
       value = level_below xs ys c.loop-i.i c.loop-i.above c.loop-i.below (omega (arith, lx)) (lx ∙ sym ly) c.loop-i.invariant.0
-          c.two-digits.result c.two-digits-in-loop-i.result (c.two-digits.ensures.value ∙ ap two_digits c.padded-at.ensures) (c.two-digits-in-loop-i.ensures.value ∙ ap two_digits c.padded-at-in-loop-i.ensures)
-          (bytes_padded n c.args.amount.now (λ k. omega (arith, c.type-inv.amount k))) c.if-b-a.true
+          c.two_digits.result c.two_digits-in-loop-i.result (c.two_digits.ensures.value ∙ ap two_digits c.padded_at.ensures) (c.two_digits-in-loop-i.ensures.value ∙ ap two_digits c.padded_at-in-loop-i.ensures)
+          (bytes_padded n c.args.amount.now (λ k. omega (arith, c.type_inv.amount k))) c.if-b-a.true
           ∙ same_order n c.args.amount.now c.args.floor.now;
       law = never_milder c.args.amount.now c.args.floor.now;
     }
@@ -42,7 +42,7 @@ loop-i-preserved c =
     let lx : length xs ≡ n = length_padded n c.args.amount.now (omega arith) in
     let ly : length ys ≡ n = length_padded n c.args.floor.now (omega arith) in (
       level_more xs ys c.loop-i.i c.loop-i.above c.loop-i.below (omega (arith, lx)) (lx ∙ sym ly) c.loop-i.invariant.0
-          c.two-digits.result c.two-digits-in-loop-i.result (c.two-digits.ensures.value ∙ ap two_digits c.padded-at.ensures) (c.two-digits-in-loop-i.ensures.value ∙ ap two_digits c.padded-at-in-loop-i.ensures)
+          c.two_digits.result c.two_digits-in-loop-i.result (c.two_digits.ensures.value ∙ ap two_digits c.padded_at.ensures) (c.two_digits-in-loop-i.ensures.value ∙ ap two_digits c.padded_at-in-loop-i.ensures)
           c.min-common.result c.min-common.ensures,
       omega arith,
       omega arith,

@@ -3,4 +3,4 @@ use Rattle.dictionary.proofs.name.name_at.Goals as goal
 
 pub returns : goal.returns
 unfolding names
-returns c = c.text-at.ensures
+returns c = c.text_at.ensures

@@ -13,8 +13,8 @@ returns-then-s-number c =
     next_at c.args.slots.now c.args.tag.value c.loop-i.i c.loop-i.start s n c.loop-i-test.true
     (c.if-s-number.true ∙ c.number.ensures)
 
-pub overflow-add-start : goal.overflow-add-start
-overflow-add-start c =
+pub overflow_add-start : goal.overflow_add-start
+overflow_add-start c =
     let s : Slot = get_or c.args.slots.now c.loop-i.i (slot 0 0) in
     let n = passed_next c.args.slots.now c.args.tag.value c.loop-i.i c.loop-i.start s c.loop-i.invariant c.loop-i-test.true
     (get_or_default c.args.slots.now c.loop-i.i (slot 0 0) s c.loop-i-test.true) in

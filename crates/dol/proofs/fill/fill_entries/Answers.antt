@@ -8,23 +8,23 @@ use Rattle.dol.proofs.fill.fill_entries.Goals as goal
 pub loop-head-init : goal.loop-head-init
 loop-head-init g c = (onward_start (g.S.ReadStore.held c.args.store.now) (entries c.args.dol.now) c.args.out.now, c.requires)
 
-pub overflow-add-end : goal.overflow-add-end
-overflow-add-end g c =
+pub overflow_add-end : goal.overflow_add-end
+overflow_add-end g c =
     let fits = fits_first c.loop-head.at (length c.args.out.now) c.loop-head.rest.now (seen c.in-Some.head) c.in-Some.ensures c.loop-head.invariant.1 in
     search rules
 
-pub slice-bounds-fill-entry-end : goal.slice-bounds-fill-entry-end
-slice-bounds-fill-entry-end g c =
+pub slice_bounds-fill_entry-end : goal.slice_bounds-fill_entry-end
+slice_bounds-fill_entry-end g c =
     let fits = fits_first c.loop-head.at (length c.args.out.now) c.loop-head.rest.now (seen c.in-Some.head) c.in-Some.ensures c.loop-head.invariant.1 in
     search rules
 
 pub loop-head-preserved : goal.loop-head-preserved
 loop-head-preserved g c =
-    let next = filled_one (g.S.ReadStore.held c.args.store.now) c.loop-head.at (length c.args.out.now) c.loop-head.out c.fill-entry.new.out c.loop-head.rest.now (seen c.in-Some.head) c.in-Some.ensures c.loop-head.auto.out c.loop-head.invariant.1 c.fill-entry.auto.out c.fill-entry.ensures in
+    let next = filled_one (g.S.ReadStore.held c.args.store.now) c.loop-head.at (length c.args.out.now) c.loop-head.out c.fill_entry.new.out c.loop-head.rest.now (seen c.in-Some.head) c.in-Some.ensures c.loop-head.auto.out c.loop-head.invariant.1 c.fill_entry.auto.out c.fill_entry.ensures in
     (next.0 ∙ c.loop-head.invariant.0, next.1)
 
 pub returns : goal.returns
 returns g c =
-    filled_all (g.S.ReadStore.held c.args.store.now) c.loop-head.at (length c.args.out.now) c.loop-head.out c.loop-head.rest.now c.in-default.ensures c.loop-head.invariant.1
+    filled_all (g.S.ReadStore.held c.args.store.now) c.loop-head.at (length c.args.out.now) c.loop-head.out c.loop-head.rest.now c.in_default.ensures c.loop-head.invariant.1
     ∙ c.loop-head.invariant.0
     ∙ written_is (g.S.ReadStore.held c.args.store.now) c.args.dol.now c.args.out.now c.requires

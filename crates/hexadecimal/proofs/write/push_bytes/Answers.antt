@@ -15,7 +15,7 @@ more xs bs ys i less wrote =
 
 pub loop-b-preserved : goal.loop-b-preserved
 loop-b-preserved c =
-    more (vec_items c.loop-b.out) c.args.bytes.now (vec_items c.push-byte.new.out) c.loop-b.b-index c.loop-b-test.true c.in-ok-push-byte.ensures
+    more (vec_items c.loop-b.out) c.args.bytes.now (vec_items c.push_byte.new.out) c.loop-b.b-index c.loop-b-test.true c.in_ok-push_byte.ensures
     ∙ c.loop-b.invariant
 
 pub returns : goal.returns
@@ -23,5 +23,5 @@ returns c = record {
   items =
       sym (ap (λ zs. vec_items c.loop-b.out ++ zs) (at_drop_all shown c.args.bytes.now c.loop-b.b-index c.loop-b-test.false) ∙ append-nil (vec_items c.loop-b.out))
       ∙ c.loop-b.invariant;
-  back = back c.args.bytes.now (λ i. omega (arith, c.type-inv.bytes i));
+  back = back c.args.bytes.now (λ i. omega (arith, c.type_inv.bytes i));
 }

@@ -8,11 +8,11 @@ use Rattle.isolation.proofs.beside.ask.Goals as goal
 
 pub returns : goal.returns
 returns g c =
-    let e = c.make-call.ensures in
-    let r = c.make-call.result in
-    let part = c.make-call.new.buffer in
+    let e = c.make_call.ensures in
+    let r = c.make_call.result in
+    let part = c.make_call.new.buffer in
     let b = meaning g.S.ReadStore c.args.reader.now in
-    let a = meaning g.S.ReadStore c.make-call.new.reader in
+    let a = meaning g.S.ReadStore c.make_call.new.reader in
     let wide = c.min-wide.result in
     let long = c.min-long.result in
     let lent = length-take-le (wide - 0) c.args.buffer.now (omega (arith, c.min-wide.ensures)) in

@@ -7,8 +7,8 @@ use Rattle.isolation.proofs.beside.play_both.Goals as goal
 pub returns : goal.returns
 returns g c =
     let a = c.args in
-    let one = c.open-and-play-made in
-    let two = c.open-and-play-other in
+    let one = c.open_and_play-made in
+    let two = c.open_and_play-other in
     let wide : length one.new.buffer ≡ length a.buffer.now = search rules in
     let long : length one.new.list ≡ length a.list.now = search rules in
     let m₀ = meaning g.S.ReadStore a.first.now in

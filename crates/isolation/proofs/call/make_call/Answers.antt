@@ -27,13 +27,13 @@ returns-in-Write g c =
 
 pub returns-in-LinkFault : goal.returns-in-LinkFault
 returns-in-LinkFault g c =
-    let e = c.link-fault.ensures in
+    let e = c.link_fault.ensures in
     let b = meaning g.S.ReadStore c.args.reader.now in
-    let a = meaning g.S.ReadStore c.link-fault.new.self in
+    let a = meaning g.S.ReadStore c.link_fault.new.self in
     let buffer = c.args.buffer.now in
     let wide = length buffer in
     let work = length c.args.list.now in
-    let r = c.link-fault.result in
+    let r = c.link_fault.result in
     let same = plain_told Ended refl r e.ended buffer in
     record {
       does = λ roomy. subst (λ k. Does b (meant wide work k) (told r buffer) a) (sym c.in-LinkFault.is) (subst (λ t. Does b (link_fault c.in-LinkFault.code) t a) same (e.does roomy));

@@ -2,8 +2,8 @@ use Rattle.std.proofs.Common.{length, ◌∙◌}
 use Rattle.judge.proofs.Outermost.{at_fault, at_token, rest_less}
 use Rattle.judge.proofs.text.first_constructed.Goals as goal
 
-pub returns-in-default : goal.returns-in-default
-returns-in-default c = at_fault (length c.args.text.now) c.loop-token.rest.now _ _ c.in-default.ensures ∙ c.loop-token.invariant
+pub returns-in_default : goal.returns-in_default
+returns-in_default c = at_fault (length c.args.text.now) c.loop-token.rest.now _ _ c.in_default.ensures ∙ c.loop-token.invariant
 
 pub returns-in-End : goal.returns-in-End
 returns-in-End c = at_token (length c.args.text.now) c.loop-token.rest.now c.in-Ok.after.now c.in-Ok.token _ c.in-End.is c.in-Ok.ensures ∙ c.loop-token.invariant

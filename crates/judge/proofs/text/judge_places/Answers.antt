@@ -22,5 +22,5 @@ returns g c =
     let text = c.args.text.now in
     let ps = c.args.places.now in
     let answer : c.walk.result ≡ judged k m text =
-    c.walk.ensures ∙ ap (λ b. walked k m text b [] ps) c.constructed-in.ensures ∙ walk_judges k m text ps c.requires in
+    c.walk.ensures ∙ ap (λ b. walked k m text b [] ps) c.constructed_in.ensures ∙ walk_judges k m text ps c.requires in
     record { answer = answer; accepted = fit k m text ps c.requires c.walk.result answer }

@@ -10,9 +10,9 @@ loop-entry-preserved g c =
     let inv = c.loop-entry.invariant in
     let es = c.args.entries.now in
     let i = c.loop-entry.entry-index in (
-      ap (cleared_all (drop (i + 1) es)) c.clear-entry.ensures.after ∙ sym (cleared_more es i _ c.loop-entry-test.true (g.S.ReadStore.held c.loop-entry.store)) ∙ inv.0,
-      c.clear-entry.ensures.limits.0 ∙ inv.1,
-      c.clear-entry.ensures.limits.1 ∙ inv.2,
+      ap (cleared_all (drop (i + 1) es)) c.clear_entry.ensures.after ∙ sym (cleared_more es i _ c.loop-entry-test.true (g.S.ReadStore.held c.loop-entry.store)) ∙ inv.0,
+      c.clear_entry.ensures.limits.0 ∙ inv.1,
+      c.clear_entry.ensures.limits.1 ∙ inv.2,
     )
 
 pub returns : goal.returns

@@ -21,10 +21,10 @@ loop-place-preserved g c =
           let q = inv.0 p in
           let f = fresh_more text ps i _ c.loop-place-test.true m q.1 in
           let e = sym (stored_more text ps i _ c.loop-place-test.true m) ∙ q.0 in
-          let after = c.put-one.ensures.after f.0 (holds_so_far text (drop (i + 1) ps) (stored_one text m (get_or ps i blank)) _ _ _ _ _ f.1 e p.room inv.1 inv.2) in
+          let after = c.put_one.ensures.after f.0 (holds_so_far text (drop (i + 1) ps) (stored_one text m (get_or ps i blank)) _ _ _ _ _ f.1 e p.room inv.1 inv.2) in
           (ap (stored text (drop (i + 1) ps)) after ∙ e, subst F (sym after) f.1)),
-      c.put-one.ensures.limits.0 ∙ inv.1,
-      c.put-one.ensures.limits.1 ∙ inv.2,
+      c.put_one.ensures.limits.0 ∙ inv.1,
+      c.put_one.ensures.limits.1 ∙ inv.2,
     )
 
 pub returns : goal.returns

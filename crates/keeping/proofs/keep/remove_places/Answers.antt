@@ -9,9 +9,9 @@ loop-place-preserved g c =
     let inv = c.loop-place.invariant in
     let ps = c.args.places.now in
     let i = c.loop-place.place-index in (
-      ap (removed (drop (i + 1) ps)) c.remove-one.ensures.after ∙ sym (removed_more ps i _ c.loop-place-test.true (g.S.ReadStore.held c.loop-place.store)) ∙ inv.0,
-      c.remove-one.ensures.limits.0 ∙ inv.1,
-      c.remove-one.ensures.limits.1 ∙ inv.2,
+      ap (removed (drop (i + 1) ps)) c.remove_one.ensures.after ∙ sym (removed_more ps i _ c.loop-place-test.true (g.S.ReadStore.held c.loop-place.store)) ∙ inv.0,
+      c.remove_one.ensures.limits.0 ∙ inv.1,
+      c.remove_one.ensures.limits.1 ∙ inv.2,
     )
 
 pub returns : goal.returns

@@ -11,13 +11,13 @@ returns g c =
     let ps = c.args.places.now in
     let m = g.S.ReadStore.held c.args.store.now in
     let F : Map → Type 0 = λ n. Fresh text ps n in
-    let same = ap (stored text ps) c.remove-places.ensures.after ∙ stored_removed text ps m in
-    let lo = c.remove-places.ensures.limits.0 in
-    let lb = c.remove-places.ensures.limits.1 in
+    let same = ap (stored text ps) c.remove_places.ensures.after ∙ stored_removed text ps m in
+    let lo = c.remove_places.ensures.limits.0 in
+    let lb = c.remove_places.ensures.limits.1 in
     record {
-      after = λ h. c.put-places.ensures.after (record {
-        fresh = subst F (sym c.remove-places.ensures.after) (fresh_removed c.args.kind m text ps c.requires);
+      after = λ h. c.put_places.ensures.after (record {
+        fresh = subst F (sym c.remove_places.ensures.after) (fresh_removed c.args.kind m text ps c.requires);
         room = record { few = omega (arith, ap count same, h.few); small = omega (arith, ap total same, h.small) };
       }) ∙ same;
-      limits = (c.put-places.ensures.limits.0 ∙ lo, c.put-places.ensures.limits.1 ∙ lb);
+      limits = (c.put_places.ensures.limits.0 ∙ lo, c.put_places.ensures.limits.1 ∙ lb);
     }

@@ -8,7 +8,7 @@ use Rattle.keeping.proofs.total.length_after.Goals.{then-p-tag, else-p-tag}
 pub loop-p-preserved : goal.loop-p-preserved
 loop-p-preserved c =
     elim c.if-p-tag.branch [
-      | then-p-tag w ↦ length_here c.args.text.now c.args.places.now c.loop-p.p-index _ c.loop-p-test.true c.args.tag c.loop-p.n c.if-p-tag.n w.if-p-tag.true (w.n-is ∙ ap length c.value-in-len.ensures) ∙ c.loop-p.invariant
+      | then-p-tag w ↦ length_here c.args.text.now c.args.places.now c.loop-p.p-index _ c.loop-p-test.true c.args.tag c.loop-p.n c.if-p-tag.n w.if-p-tag.true (w.n-is ∙ ap length c.value_in-len.ensures) ∙ c.loop-p.invariant
       | else-p-tag w ↦ length_other c.args.text.now c.args.places.now c.loop-p.p-index _ c.loop-p-test.true c.args.tag c.loop-p.n c.if-p-tag.n w.if-p-tag.false w.n-is ∙ c.loop-p.invariant
     ]
 

@@ -6,5 +6,5 @@ use Rattle.lines.proofs.words.written_word.Goals as goal
 -- the digits are characters of ASCII, so none is replaced
 pub returns : goal.returns
 returns c =
-    let e : c.as-slice.result.now ≡ written c.args.bytes.now = search rules in
-    c.in-ok-word.ensures.ok (subst IsUtf8 (sym e) (written_utf8 c.args.bytes.now (λ i. omega (arith, c.type-inv.bytes i)))) ∙ e
+    let e : c.as_slice.result.now ≡ written c.args.bytes.now = search rules in
+    c.in_ok-word.ensures.ok (subst IsUtf8 (sym e) (written_utf8 c.args.bytes.now (λ i. omega (arith, c.type_inv.bytes i)))) ∙ e

@@ -4,4 +4,4 @@ use Rattle.masking.proofs.MaskingReadStore.byte_total.Goals as goal
 
 pub returns : goal.returns
 returns g c =
-    c.byte-total.ensures ∙ sym (total_unmasked c.args.self.now.pad.bytes (g.S.ReadStore.held c.args.self.now.lower))
+    c.byte_total.ensures ∙ sym (total_unmasked c.args.self.now.pad.bytes (g.S.ReadStore.held c.args.self.now.lower))

@@ -10,18 +10,18 @@ returns-in-Filled g c =
     let d = c.args.out.now in
     record {
       answer = c.in-Filled.ensures.answer ∙ sym (copy_answer_masked pad t o (length d));
-      after = copy_filled_masked pad t o d c.copy-out-copied.new.out c.apply.new.text c.in-Filled.n (c.in-Filled.n - 0) (omega arith)
-          c.in-Filled.ensures.answer c.copy-out-copied.ensures.after c.apply.ensures;
+      after = copy_filled_masked pad t o d c.copy_out-copied.new.out c.apply.new.text c.in-Filled.n (c.in-Filled.n - 0) (omega arith)
+          c.in-Filled.ensures.answer c.copy_out-copied.ensures.after c.apply.ensures;
     }
 
-pub returns-in-default : goal.returns-in-default
-returns-in-default g c =
+pub returns-in_default : goal.returns-in_default
+returns-in_default g c =
     let pad = c.args.self.now.pad.bytes in
     let t = c.args.tag.value in
     let o = g.S.ReadStore.held c.args.self.now.lower t in
     let d = c.args.out.now in
     record {
-      answer = c.copy-out-copied.ensures.answer ∙ sym (copy_answer_masked pad t o (length d));
-      after = copy_rest_masked pad t o d c.copy-out-copied.new.out
-          (λ n e. c.in-default.not-Filled n (c.copy-out-copied.ensures.answer ∙ e)) c.copy-out-copied.ensures.after;
+      answer = c.copy_out-copied.ensures.answer ∙ sym (copy_answer_masked pad t o (length d));
+      after = copy_rest_masked pad t o d c.copy_out-copied.new.out
+          (λ n e. c.in_default.not-Filled n (c.copy_out-copied.ensures.answer ∙ e)) c.copy_out-copied.ensures.after;
     }

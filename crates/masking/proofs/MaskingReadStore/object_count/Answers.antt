@@ -4,4 +4,4 @@ use Rattle.masking.proofs.MaskingReadStore.object_count.Goals as goal
 
 pub returns : goal.returns
 returns g c =
-    c.object-count.ensures ∙ sym (count_unmasked c.args.self.now.pad.bytes (g.S.ReadStore.held c.args.self.now.lower))
+    c.object_count.ensures ∙ sym (count_unmasked c.args.self.now.pad.bytes (g.S.ReadStore.held c.args.self.now.lower))

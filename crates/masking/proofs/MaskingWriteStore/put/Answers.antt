@@ -10,7 +10,7 @@ returns g c =
     let m = g.S.ReadStore.held c.args.self.now.lower in
     let v = c.args.value.now in
     let x = c.apply.new.text in
-    let e : x ≡ masked pad t v = c.apply.ensures ∙ ap (masked pad t) c.copy-from-slice.ensures.after in
+    let e : x ≡ masked pad t v = c.apply.ensures ∙ ap (masked pad t) c.copy_from_slice.ensures.after in
     record {
       answer = c.put.ensures.answer
           ∙ put_answer_masked pad (g.S.ReadStore.objects c.args.self.now.lower) (g.S.ReadStore.bytes c.args.self.now.lower) m t v x e;

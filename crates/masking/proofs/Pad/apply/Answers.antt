@@ -7,8 +7,8 @@ loop-i-init c = refl
 
 pub loop-i-preserved : goal.loop-i-preserved
 loop-i-preserved c =
-    masked_turn c.args.self.now.bytes c.args.tag.value c.args.text.now c.loop-i.text c.loop-i.i c.byte-for.result
-    c.loop-i-test.true c.loop-i.invariant c.byte-for.ensures
+    masked_turn c.args.self.now.bytes c.args.tag.value c.args.text.now c.loop-i.text c.loop-i.i c.byte_for.result
+    c.loop-i-test.true c.loop-i.invariant c.byte_for.ensures
 
 pub returns : goal.returns
 returns c =

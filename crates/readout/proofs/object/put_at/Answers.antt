@@ -7,6 +7,6 @@ returns c =
     let a = c.args.at in
     let zs = c.args.bytes.now in
     record {
-      front = pasted_front a (a + length zs - a) (a + length zs) c.args.out.now c.copy-from-slice.new.self zs c.copy-from-slice.ensures.after refl (omega arith) c.requires;
-      back = pasted_back a (a + length zs - a) (a + length zs) c.args.out.now c.copy-from-slice.new.self zs c.copy-from-slice.ensures.after refl (omega arith) c.requires;
+      front = pasted_front a (a + length zs - a) (a + length zs) c.args.out.now c.copy_from_slice.new.self zs c.copy_from_slice.ensures.after refl (omega arith) c.requires;
+      back = pasted_back a (a + length zs - a) (a + length zs) c.args.out.now c.copy_from_slice.new.self zs c.copy_from_slice.ensures.after refl (omega arith) c.requires;
     }

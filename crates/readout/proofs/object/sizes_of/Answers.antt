@@ -8,7 +8,7 @@ pub loop-tag-preserved : goal.loop-tag-preserved
 loop-tag-preserved g c =
     let inv = c.loop-tag.invariant in
     let s = size_more c.loop-tag.tag-index c.args.absent c.args.tags.now (g.S.ReadStore.held c.args.store.now) c.loop-tag-test.true in
-    (omega (arith, inv.0, c.size-of-all.ensures.value), omega (arith, inv.1, c.size-of-all.ensures.small))
+    (omega (arith, inv.0, c.size_of-all.ensures.value), omega (arith, inv.1, c.size_of-all.ensures.small))
 
 pub returns : goal.returns
 returns g c =

@@ -14,6 +14,6 @@ returns-in-Ok c =
     let t = c.in-Ok.tag in
     let rest = c.in-Ok.rest.now in
     record {
-      value = ap (λ a. want t a rest) c.saturating-sub-at.ensures ∙ next_tag c.args.end text (tag t rest) some c.if-first-eq0.false c.in-Ok.ensures;
-      whole = whole_tag text t rest some (λ i. omega (arith, c.type-inv.text i)) c.if-first-eq0.false c.in-Ok.ensures;
+      value = ap (λ a. want t a rest) c.saturating_sub-at.ensures ∙ next_tag c.args.end text (tag t rest) some c.if-first-eq0.false c.in-Ok.ensures;
+      whole = whole_tag text t rest some (λ i. omega (arith, c.type_inv.text i)) c.if-first-eq0.false c.in-Ok.ensures;
     }

@@ -44,11 +44,11 @@ returns-in-Full c =
       named = c.in-Full.ensures.named;
     }
 
-pub returns-in-default-add : goal.returns-in-default-add
-returns-in-default-add c =
+pub returns-in_default-add : goal.returns-in_default-add
+returns-in_default-add c =
     let q = c.in-Want.ensures.value in
     let w = went c.args.end (elements c.args.list.now) (elements c.add.new.self) c.args.text.now c.in-Some.tag c.in-Want.number c.in-Want.at c.in-Want.after.now
-    c.add.result (length (memory c.args.list.now)) q c.in-Some.ensures c.in-Want.ensures.whole.is c.requires c.add.ensures.answer c.add.ensures.elements c.in-default-add.not-Full in
+    c.add.result (length (memory c.args.list.now)) q c.in-Some.ensures c.in-Want.ensures.whole.is c.requires c.add.ensures.answer c.add.ensures.elements c.in_default-add.not-Full in
     record {
       step = (w.on, less c.args.end (numbers (elements c.args.list.now)) c.args.text.now (want c.in-Want.number c.in-Want.at c.in-Want.after.now) q);
       tags = w.tags;

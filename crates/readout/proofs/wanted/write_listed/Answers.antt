@@ -11,15 +11,15 @@ pub returns-in-Ok : goal.returns-in-Ok
 returns-in-Ok g c =
     let m = g.S.ReadStore.held c.args.store.now in
     let n = c.in-Ok.n in
-    let tags = c.listed-tags.new.tags in
+    let tags = c.listed_tags.new.tags in
     let out = c.args.out.now in
-    let r = c.write-objects.result in
+    let r = c.write_objects.result in
     let z : n - 0 ≡ n = omega arith in
     let e : objects_at Empty (take (n - 0) tags) m ≡ wanted_objects m = ap (λ k. objects_at Empty (take k tags) m) z ∙ wanted_is (take n tags) m c.in-Ok.ensures.tags c.in-Ok.ensures.value in
     record {
-      answer = c.write-objects.ensures.answer ∙ ap (λ xs. fit_answer (bytes_of xs) (length out)) e ∙ ap (λ w. on_tags w (wanted_objects m) (length out)) c.in-Ok.ensures.value;
-      after = c.write-objects.ensures.after ∙ ap (λ xs. write_after r (bytes_of xs) out) e;
-      reads = subst (λ xs. ReadsAs r c.write-objects.new.out xs) e c.write-objects.ensures.reads;
+      answer = c.write_objects.ensures.answer ∙ ap (λ xs. fit_answer (bytes_of xs) (length out)) e ∙ ap (λ w. on_tags w (wanted_objects m) (length out)) c.in-Ok.ensures.value;
+      after = c.write_objects.ensures.after ∙ ap (λ xs. write_after r (bytes_of xs) out) e;
+      reads = subst (λ xs. ReadsAs r c.write_objects.new.out xs) e c.write_objects.ensures.reads;
       only = where_written r (only_wanted m);
       once = where_written r (each_once (value_of (m 0xDF_8112)));
     }

@@ -13,8 +13,8 @@ more xs rs ys i d less wrote =
 
 pub loop-one-preserved : goal.loop-one-preserved
 loop-one-preserved c =
-    more (string_bytes c.loop-one.out) c.args.records.now (string_bytes c.push-str.new.self) c.loop-one.one_Index _ c.loop-one-test.true
-    (c.in-ok-push-str.ensures.bytes ∙ ap (λ zs. string_bytes c.loop-one.out ++ zs) (c.as-str.ensures.value ∙ c.in-ok-word.ensures))
+    more (string_bytes c.loop-one.out) c.args.records.now (string_bytes c.push_str.new.self) c.loop-one.one_Index _ c.loop-one-test.true
+    (c.in_ok-push_str.ensures.bytes ∙ ap (λ zs. string_bytes c.loop-one.out ++ zs) (c.as_str.ensures.value ∙ c.in_ok-word.ensures))
     ∙ c.loop-one.invariant
 
 pub returns : goal.returns

@@ -12,5 +12,5 @@ pub returns-in-None : goal.returns-in-None
 unfolding answered
 returns-in-None c = λ phase share held.
     let a = c.args.answer.now in
-    ap (λ o. unless o held (answer_text phase share held (text_of a))) c.status-cause.ensures
+    ap (λ o. unless o held (answer_text phase share held (text_of a))) c.status_cause.ensures
     ∙ ap (λ o. unless o held (unless (bad_status a) held (answer_text phase share held (text_of a)))) c.in-None.ensures

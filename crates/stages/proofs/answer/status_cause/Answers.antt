@@ -7,6 +7,6 @@ use Rattle.stages.proofs.answer.status_cause.Goals as goal
 pub returns : goal.returns
 returns c =
     let F : ℕ → ℕ → Option Cause = λ a b. cause_if (not (eqb a 0x90 && eqb b 0)) (BadStatus a b) in
-    let first = c.byte-at-sw1.ensures ∙ ap (λ l. get_or l 0 0) c.status-of-status.ensures in
-    let second = c.byte-at-sw2.ensures ∙ ap (λ l. get_or l 1 0) c.status-of-status.ensures in
-    c.bad-status.ensures ∙ ap (λ a. F a c.byte-at-sw2.result) first ∙ ap (F (status_at c.args.answer.now 0)) second
+    let first = c.byte_at-sw1.ensures ∙ ap (λ l. get_or l 0 0) c.status_of-status.ensures in
+    let second = c.byte_at-sw2.ensures ∙ ap (λ l. get_or l 1 0) c.status_of-status.ensures in
+    c.bad_status.ensures ∙ ap (λ a. F a c.byte_at-sw2.result) first ∙ ap (F (status_at c.args.answer.now 0)) second

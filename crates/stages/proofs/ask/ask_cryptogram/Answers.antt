@@ -10,10 +10,10 @@ returns g c =
     let H = g.S.ReadStore.held c.args.store.now in
     let k = c.args.requested in
     let buf = c.args.buffer.now in
-    let buf' = c.generate-ac.new.command in
+    let buf' = c.generate_ac.new.command in
     let x = roomy (length buf) (generate_command k H) in
-    let n = c.in-ok-generate-ac.field-0 in
-    let e = c.in-ok-generate-ac.ensures in
+    let n = c.in_ok-generate_ac.field-0 in
+    let e = c.in_ok-generate_ac.ensures in
     record {
       course = λ wide.
           built n buf buf' x (awaits_cryptogram k) H e.value e.after

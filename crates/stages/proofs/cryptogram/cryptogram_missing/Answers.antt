@@ -10,4 +10,4 @@ pub returns : goal.returns
 unfolding after_cryptogram
 returns c = λ requested held.
     let M = stored c.args.text.now c.args.places.now empty in
-    ap (λ o. unless o held (gives held (answered requested (get_or (bytes (M 0x9F27)) 0 0)))) (c.missing-cause.ensures ∙ ap missing c.first-not-brought.ensures)
+    ap (λ o. unless o held (gives held (answered requested (get_or (bytes (M 0x9F27)) 0 0)))) (c.missing_cause.ensures ∙ ap missing c.first_not_brought.ensures)

@@ -31,13 +31,13 @@ first (Ok (End o)) k some most h = h
 
 pub returns : goal.returns
 returns c =
-    let e = c.ask-first.ensures in
+    let e = c.ask_first.ensures in
     record {
       course = λ wide held.
-          e.course wide c.read-afl.new.records held
-          ∙ first_of c.read-afl.new.records c.in-ok-count.count _ held (omega (arith, c.if-count-eq0.false)) (omega (arith, c.read-afl.array_long))
-          ∙ ap (first_record held) c.in-ok-count.ensures.front;
+          e.course wide c.read_afl.new.records held
+          ∙ first_of c.read_afl.new.records c.in_ok-count.count _ held (omega (arith, c.if-count-eq0.false)) (omega (arith, c.read_afl.array_long))
+          ∙ ap (first_record held) c.in_ok-count.ensures.front;
       rest = e.rest;
       fits = e.fits;
-      shape = first c.ask-first.result c.in-ok-count.count (omega (arith, c.if-count-eq0.false)) (few c.args.afl.now c.in-ok-count.count c.in-ok-count.ensures.value) e.shape;
+      shape = first c.ask_first.result c.in_ok-count.count (omega (arith, c.if-count-eq0.false)) (few c.args.afl.now c.in_ok-count.count c.in_ok-count.ensures.value) e.shape;
     }

@@ -10,4 +10,4 @@ pub returns : goal.returns
 unfolding after_options
 returns c = λ held.
     let M = stored c.args.text.now c.args.places.now empty in
-    ap (λ o. unless o held (first_record held (records_of (bytes (M 0x94))))) (c.missing-cause.ensures ∙ ap missing c.first-not-brought.ensures)
+    ap (λ o. unless o held (first_record held (records_of (bytes (M 0x94))))) (c.missing_cause.ensures ∙ ap missing c.first_not_brought.ensures)

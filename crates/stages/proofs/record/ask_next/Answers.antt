@@ -16,10 +16,10 @@ onward (Ok (End o)) k some h = h
 
 pub returns : goal.returns
 returns c =
-    let e = c.ask-first.ensures in
+    let e = c.ask_first.ensures in
     record {
       course = λ wide held brought. e.course wide c.args.left.now held ∙ next_of c.args.left.now _ held brought (omega (arith, c.requires));
       rest = e.rest;
       fits = e.fits;
-      shape = onward c.ask-first.result (length c.args.left.now) (omega (arith, c.requires)) e.shape;
+      shape = onward c.ask_first.result (length c.args.left.now) (omega (arith, c.requires)) e.shape;
     }

@@ -6,4 +6,4 @@ use Rattle.stages.proofs.record.records_missing.Goals as goal
 pub returns : goal.returns
 returns g c = λ left none brought.
     let H = g.S.ReadStore.held c.args.store.now in
-    ap (λ o. unless o H (decides (verified H))) (c.missing-cause.ensures ∙ ap missing c.first-missing.ensures) ∙ none_left left H brought none
+    ap (λ o. unless o H (decides (verified H))) (c.missing_cause.ensures ∙ ap missing c.first_missing.ensures) ∙ none_left left H brought none

@@ -14,12 +14,12 @@ append-requires g c =
     let m = g.S.ReadStore.held s in
     let o = g.S.ReadStore.objects s in
     let b = g.S.ReadStore.bytes s in
-    let fits : passes o b (changed m t (Some v)) ≡ false = not-true (passes o b (changed m t (Some v))) (sym c.if-not-has-room.ensures) in
-    let left = room_left o b m (g.S.ReadStore.held c.take-out.new.self) t v c.args.tag.ok c.take-out.ensures.after fits in
-    let lo = c.take-out.ensures.limits.0 in
-    let lb = c.take-out.ensures.limits.1 in
+    let fits : passes o b (changed m t (Some v)) ≡ false = not-true (passes o b (changed m t (Some v))) (sym c.if-not-has_room.ensures) in
+    let left = room_left o b m (g.S.ReadStore.held c.take_out.new.self) t v c.args.tag.ok c.take_out.ensures.after fits in
+    let lo = c.take_out.ensures.limits.0 in
+    let lb = c.take_out.ensures.limits.1 in
     record {
-      absent = ap (λ k. k t) c.take-out.ensures.after ∙ changed_here m t None;
+      absent = ap (λ k. k t) c.take_out.ensures.after ∙ changed_here m t None;
       room = (omega (arith, c.requires), omega (arith, left.0), omega (arith, left.1));
     }
 
@@ -31,9 +31,9 @@ returns g c =
     let m = g.S.ReadStore.held s in
     let o = g.S.ReadStore.objects s in
     let b = g.S.ReadStore.bytes s in
-    let fits : passes o b (changed m t (Some v)) ≡ false = not-true (passes o b (changed m t (Some v))) (sym c.if-not-has-room.ensures) in
+    let fits : passes o b (changed m t (Some v)) ≡ false = not-true (passes o b (changed m t (Some v))) (sym c.if-not-has_room.ensures) in
     record {
       answer = put_taken o b m t v c.requires fits;
-      after = c.append.ensures.after ∙ ap (λ k. changed k t (Some v)) c.take-out.ensures.after ∙ changed_changed m t None (Some v);
-      limits = (c.append.ensures.limits.0 ∙ c.take-out.ensures.limits.0, c.append.ensures.limits.1 ∙ c.take-out.ensures.limits.1);
+      after = c.append.ensures.after ∙ ap (λ k. changed k t (Some v)) c.take_out.ensures.after ∙ changed_changed m t None (Some v);
+      limits = (c.append.ensures.limits.0 ∙ c.take_out.ensures.limits.0, c.append.ensures.limits.1 ∙ c.take_out.ensures.limits.1);
     }

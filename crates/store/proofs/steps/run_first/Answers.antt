@@ -11,17 +11,17 @@ loop-i-preserved g c =
     let o₁ = g.S.ReadStore.objects c.loop-i.store in
     let b₁ = g.S.ReadStore.bytes c.loop-i.store in
     let m₁ = g.S.ReadStore.held c.loop-i.store in
-    let m₂ = g.S.ReadStore.held c.do-step.new.store in
+    let m₂ = g.S.ReadStore.held c.do_step.new.store in
     let text = c.args.text.now in
     let s = c.index-steps-i.result in
-    let x = c.do-step.result in
+    let x = c.do_step.result in
     let answer : x ≡ step_answer o b text m₁ s =
-    c.do-step.ensures.answer ∙ ap (λ k. step_answer k b₁ text m₁ s) c.loop-i.invariant.2 ∙ ap (λ k. step_answer o k text m₁ s) c.loop-i.invariant.3 in
+    c.do_step.ensures.answer ∙ ap (λ k. step_answer k b₁ text m₁ s) c.loop-i.invariant.2 ∙ ap (λ k. step_answer o k text m₁ s) c.loop-i.invariant.3 in
     let after : m₂ ≡ step_after o b text m₁ s =
-    c.do-step.ensures.after ∙ ap (λ k. step_after k b₁ text m₁ s) c.loop-i.invariant.2 ∙ ap (λ k. step_after o k text m₁ s) c.loop-i.invariant.3 in (
+    c.do_step.ensures.after ∙ ap (λ k. step_after k b₁ text m₁ s) c.loop-i.invariant.2 ∙ ap (λ k. step_after o k text m₁ s) c.loop-i.invariant.3 in (
       answers_more o b text m m₁ c.args.steps.now c.args.answers.now c.loop-i.answers c.loop-i.i s x
           (omega arith) (omega arith) c.index-steps-i.is c.loop-i.invariant.1 answer c.loop-i.invariant.0,
       map_more o b text m m₁ m₂ c.args.steps.now c.loop-i.i s (omega arith) c.index-steps-i.is c.loop-i.invariant.1 after,
-      c.do-step.ensures.limits.0 ∙ c.loop-i.invariant.2,
-      c.do-step.ensures.limits.1 ∙ c.loop-i.invariant.3,
+      c.do_step.ensures.limits.0 ∙ c.loop-i.invariant.2,
+      c.do_step.ensures.limits.1 ∙ c.loop-i.invariant.3,
     )

@@ -8,12 +8,12 @@ returns g c =
     let b = c.args.b.now in
     let n = c.args.n in
     record {
-      first = c.run-first.ensures.answers;
-      second = c.run-first-2.ensures.answers;
-      after = (c.run-first.ensures.after, c.run-first-2.ensures.after);
+      first = c.run_first.ensures.answers;
+      second = c.run_first-2.ensures.answers;
+      after = (c.run_first.ensures.after, c.run_first-2.ensures.after);
       alike = same_answers (g.A.ReadStore.objects a) (g.A.ReadStore.bytes a) (g.B.ReadStore.objects b) (g.B.ReadStore.bytes b) c.args.text.now
-          (g.A.ReadStore.held a) (g.B.ReadStore.held b) (g.A.ReadStore.held c.run-first.new.store) (g.B.ReadStore.held c.run-first-2.new.store)
-          c.args.steps.now n c.run-first.new.answers c.run-first-2.new.answers (drop n c.args.first.now) (drop n c.args.second.now)
-          (omega arith) c.run-first.ensures.answers c.run-first-2.ensures.answers c.run-first.ensures.after c.run-first-2.ensures.after;
-      limits = ((c.run-first.ensures.limits.0, c.run-first.ensures.limits.1), (c.run-first-2.ensures.limits.0, c.run-first-2.ensures.limits.1));
+          (g.A.ReadStore.held a) (g.B.ReadStore.held b) (g.A.ReadStore.held c.run_first.new.store) (g.B.ReadStore.held c.run_first-2.new.store)
+          c.args.steps.now n c.run_first.new.answers c.run_first-2.new.answers (drop n c.args.first.now) (drop n c.args.second.now)
+          (omega arith) c.run_first.ensures.answers c.run_first-2.ensures.answers c.run_first.ensures.after c.run_first-2.ensures.after;
+      limits = ((c.run_first.ensures.limits.0, c.run_first.ensures.limits.1), (c.run_first-2.ensures.limits.0, c.run_first-2.ensures.limits.1));
     }

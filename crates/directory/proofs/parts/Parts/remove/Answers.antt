@@ -11,11 +11,11 @@ returns-in-Some c =
     let t = c.args.tag.value in
     let p = c.in-Some.p in
     let k = c.in-Some.ensures in
-    let h = ordered_cut n u ss c.copy-within.new.self vs c.copy-within-in-Some.new.self t p.index p.start p.size (n - 1) (u - p.size)
-    c.requires k.slot c.copy-within.ensures.len c.copy-within-in-Some.ensures.len c.copy-within.ensures.after c.copy-within-in-Some.ensures.after refl refl in
+    let h = ordered_cut n u ss c.copy_within.new.self vs c.copy_within-in-Some.new.self t p.index p.start p.size (n - 1) (u - p.size)
+    c.requires k.slot c.copy_within.ensures.len c.copy_within-in-Some.ensures.len c.copy_within.ensures.after c.copy_within-in-Some.ensures.after refl refl in
     record {
       sound = h.sound;
       answer = sym (ap is_some k.here);
       after = h.map;
-      limits = (c.copy-within.ensures.len, c.copy-within-in-Some.ensures.len);
+      limits = (c.copy_within.ensures.len, c.copy_within-in-Some.ensures.len);
     }

@@ -11,7 +11,7 @@ returns-then-not-branch c =
     let after = c.take.new.self in
     sym c.loop-c.invariant.0
     ∙ at_drop_more (λ cs. bytes_from cs (vec_items now.bytes) now.half) text i 0 c.loop-c-test.true
-    ∙ c.in-ok-take.ensures.read (drop (i + 1) text)
+    ∙ c.in_ok-take.ensures.read (drop (i + 1) text)
     ∙ ap (λ (b : Bool). cond b (bytes_from (drop (i + 1) text) (vec_items after.bytes) after.half) None) c.if-not-branch.true
 
 pub loop-c-preserved : goal.loop-c-preserved
@@ -21,10 +21,10 @@ loop-c-preserved c =
     let text = c.args.text.now in
     let after = c.take.new.self in (
       sym (at_drop_more (λ cs. bytes_from cs (vec_items now.bytes) now.half) text i 0 c.loop-c-test.true
-          ∙ c.in-ok-take.ensures.read (drop (i + 1) text)
+          ∙ c.in_ok-take.ensures.read (drop (i + 1) text)
           ∙ ap (λ (b : Bool). cond b (bytes_from (drop (i + 1) text) (vec_items after.bytes) after.half) None) c.if-not-branch.false)
           ∙ c.loop-c.invariant.0,
-      c.in-ok-take.ensures.small,
+      c.in_ok-take.ensures.small,
     )
 
 pub returns : goal.returns

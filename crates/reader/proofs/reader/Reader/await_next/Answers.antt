@@ -10,8 +10,8 @@ use Rattle.reader.specs.Meanings.{meaning}
 use Rattle.reader.proofs.Following.{awaiting_at, left_behind}
 use Rattle.reader.proofs.reader.Reader.await_next.Goals as goal
 
-pub invariant-of-self : goal.invariant-of-self
-invariant-of-self g c =
+pub invariant_of-self : goal.invariant_of-self
+invariant_of-self g c =
     let r = c.args.self.now in
     let more = left_behind r.at r.len c.args.left r.records (search rules) c.requires.some.0 c.requires.some.1 in
     let few : r.count + ahead AwaitsRecord r.at r.len ≤ 66 = subst (λ p. r.count + ahead p r.at r.len ≤ 66) c.requires.phase r.few in

@@ -2,4 +2,4 @@ use Rattle.std.proofs.Common.{◌≡◌, sym, refl, ap, ◌∙◌, ap₂, rules}
 use Rattle.reader.proofs.reader.Reader.finish.Goals as goal
 
 pub returns : goal.returns
-returns g c = λ roomy. let put = c.put-error-indication.ensures.after c.args.self.now.shares roomy in search rules
+returns g c = λ roomy. let put = c.put_error_indication.ensures.after c.args.self.now.shares roomy in search rules

@@ -5,10 +5,10 @@ use Rattle.reader.proofs.reader.Reader.open_lawfully.Goals as goal
 pub returns : goal.returns
 returns g c =
     let b = meaning g.S.ReadStore c.args.self.now in
-    let a = meaning g.S.ReadStore c.open-store.new.self in
-    let e = c.open-store.ensures.opens in
-    let l = c.law-of-opening.ensures in
-    let r = c.open-store.result in
+    let a = meaning g.S.ReadStore c.open_store.new.self in
+    let e = c.open_store.ensures.opens in
+    let l = c.law_of_opening.ensures in
+    let r = c.open_store.result in
     let text = c.args.text.now in
     let work = length c.args.list.now in
     record {

@@ -10,17 +10,17 @@ pub returns : goal.returns
 returns g c =
     let r = c.args.self.now in
     let m = meaning g.S.ReadStore r in
-    let e = c.options-course-next.ensures in
-    let o = c.go-first.ensures in
-    let l = c.options-course-next.new in
+    let e = c.options_course-next.ensures in
+    let o = c.go_first.ensures in
+    let l = c.options_course-next.new in
     let held' = g.S.ReadStore.held l.store in
     record {
       goes = λ roomy.
           o.goes (e.roomy roomy) l.buffer
-          ∙ follow_moved m (limits_of g.S.ReadStore l.store) (held') (phase_meant r.phase l.records r.at r.len) (course_of c.options-course-next.result l.buffer l.records held')
+          ∙ follow_moved m (limits_of g.S.ReadStore l.store) (held') (phase_meant r.phase l.records r.at r.len) (course_of c.options_course-next.result l.buffer l.records held')
           (ap₂ (λ a b. record { objects = a; bytes = b }) e.limits.0 e.limits.1)
           (ap (λ p. phase_meant p l.records r.at r.len) c.requires.phase ∙ sym (ap (λ p. phase_meant p r.records r.at r.len) c.requires.phase))
           ∙ ap (follow m) (e.course roomy ∙ sym (ap (λ p. answer_text (phase_meant p r.records r.at r.len) r.shares.card m.held c.args.text.now) c.requires.phase));
-      rest = buffer_after c.go-first.result c.args.buffer.now l.buffer (search rules) (subst (λ n. drop n l.buffer ≡ drop n c.args.buffer.now) (sym o.size) e.rest);
+      rest = buffer_after c.go_first.result c.args.buffer.now l.buffer (search rules) (subst (λ n. drop n l.buffer ≡ drop n c.args.buffer.now) (sym o.size) e.rest);
       fits = subst (λ n. n ≤ length c.args.buffer.now) (sym o.size) e.fits;
     }

@@ -5,7 +5,7 @@ returns g c =
     let e = c.start.ensures in
     record {
       does = e.does;
-      law = c.law-of-calls.ensures _ _ _ _ e.does;
+      law = c.law_of_calls.ensures _ _ _ _ e.does;
       rest = e.rest;
       fits = e.fits;
     }

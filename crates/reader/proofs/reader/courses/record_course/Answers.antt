@@ -8,7 +8,7 @@ use Rattle.reader.proofs.reader.courses.record_course.Goals as goal
 pub returns-in-Ok : goal.returns-in-Ok
 returns-in-Ok g c =
     let t = c.in-Ok.ensures in
-    let e = c.after-record.ensures in
+    let e = c.after_record.ensures in
     record {
       course = λ roomy.
           e.course c.requires.wide c.args.shares.now (t.roomy roomy) (stored_text c.args.text.now empty)

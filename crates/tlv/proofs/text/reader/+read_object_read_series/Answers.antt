@@ -10,11 +10,11 @@ use Rattle.tlv.specs.Rising.{Before, Ordered, first_place, last_place}
 use Rattle.tlv.proofs.Steps.{Turn, inside_length, rest_shorter, inside_shorter, after_object, at_fault, at_end_lem}
 use Rattle.tlv.proofs.Order.{before_later, key_free, placed}
 use Rattle.tlv.proofs.text.reader.+read_object_read_series.Goals as goal
-use Rattle.tlv.proofs.text.reader.+read_object_read_series.Goals.{read-series-In-default}
+use Rattle.tlv.proofs.text.reader.+read_object_read_series.Goals.{read_series-In-default}
 
 -- what the loop knows once it has read a token that is not the end
-turn : (t : ℕ) (c : read-series-In-default t) → Turn c.args.end c.loop-token.rest.now c.in-ok-token.after.now c.in-ok-token.token
-turn t c = record { apart = c.in-default.not-End; read = c.in-ok-token.ensures }
+turn : (t : ℕ) (c : read_series-In-default t) → Turn c.args.end c.loop-token.rest.now c.in_ok-token.after.now c.in_ok-token.token
+turn t c = record { apart = c.in_default.not-End; read = c.in_ok-token.ensures }
 
 -- a key that is not there is not told to be there
 not_there : (h f : Bool) → h ≡ false → AlreadyThere ≡ cond h AlreadyThere (cond f Added Full) → ⊥
@@ -22,20 +22,20 @@ not_there true f n e = let z : ◌≡◌ {A = ℕ} 0 1 = cc in omega arith
 not_there false true n e = let z : ◌≡◌ {A = ℕ} 0 1 = cc in omega arith
 not_there false false n e = let z : ◌≡◌ {A = ℕ} 0 1 = cc in omega arith
 
-pub read-object-unreachable-requires : goal.read-object-unreachable-requires
-read-object-unreachable-requires t c =
+pub read_object-unreachable-requires : goal.read_object-unreachable-requires
+read_object-unreachable-requires t c =
     let b = subst (λ k. Before (first_place (meant k)) (elements c.args.list.now)) c.in-Primitive-2.is c.requires.rising in
     not_there _ _ (key_free (place c.in-Primitive-2.tag c.in-Primitive-2.at c.in-Primitive-2.start (length c.in-Primitive-2.value.now)) (elements c.args.list.now) b) c.in-AlreadyThere.ensures.answer
 
-pub read-object-read-series-requires : goal.read-object-read-series-requires
-read-object-read-series-requires t c =
+pub read_object_read_series-requires : goal.read_object_read_series-requires
+read_object_read_series-requires t c =
     let b = subst (λ k. Before (first_place (meant k)) (elements c.args.list.now)) c.in-Constructed.is c.requires.rising in
     let o = subst (λ k. Ordered (meant k)) c.in-Constructed.is c.requires.ordered in
     let size = ap (λ k. inside_length (meant k)) c.in-Constructed.is in
     (omega arith, (omega arith, (omega arith, (omega arith, before_later c.in-Constructed.at _ _ (omega arith) b))))
 
-pub read-object-returns-in-Added : goal.read-object-returns-in-Added
-read-object-returns-in-Added t c =
+pub read_object-returns-in-Added : goal.read_object-returns-in-Added
+read_object-returns-in-Added t c =
     let b = subst (λ k. Before (first_place (meant k)) (elements c.args.list.now)) c.in-Primitive-2.is c.requires.rising in
     let o = subst (λ k. Ordered (meant k)) c.in-Primitive-2.is c.requires.ordered in
     let past = c.in-Primitive-2.start + length c.in-Primitive-2.value.now in
@@ -49,53 +49,53 @@ read-object-returns-in-Added t c =
       named = search rules;
     }
 
-pub read-series-returns-in-err-token : goal.read-series-returns-in-err-token
-read-series-returns-in-err-token t c =
-    let p = err_from_is_err_and c.from-residual.result c.from-residual.ensures.1 in
+pub read_series-returns-in_err-token : goal.read_series-returns-in_err-token
+read_series-returns-in_err-token t c =
+    let p = err_from_is_err_and c.from_residual.result c.from_residual.ensures.1 in
     record {
-      read = rw (p.1, p.2) (at_fault _ _ _ _ _ _ c.in-err-token.ensures ∙ c.loop-token.invariant.4);
-      rising = IfOk-from_err _ _ c.from-residual.ensures.0;
+      read = rw (p.1, p.2) (at_fault _ _ _ _ _ _ c.in_err-token.ensures ∙ c.loop-token.invariant.4);
+      rising = IfOk-from_err _ _ c.from_residual.ensures.0;
       room = c.loop-token.invariant.1;
       named = c.loop-token.invariant.3;
     }
 
-pub read-series-returns-in-End : goal.read-series-returns-in-End
-read-series-returns-in-End t c = record {
-  read = at_end_lem _ _ _ _ _ _ c.in-End.is c.in-ok-token.ensures ∙ c.loop-token.invariant.4;
+pub read_series-returns-in-End : goal.read_series-returns-in-End
+read_series-returns-in-End t c = record {
+  read = at_end_lem _ _ _ _ _ _ c.in-End.is c.in_ok-token.ensures ∙ c.loop-token.invariant.4;
   rising = before_later _ _ _ (omega arith) c.loop-token.invariant.2;
   room = c.loop-token.invariant.1;
   named = c.loop-token.invariant.3;
 }
 
-pub read-series-read-object-requires : goal.read-series-read-object-requires
-read-series-read-object-requires t c =
-    let now = turn t (goal.at.read-series-read-object-requires t c).In-default in
+pub read_series-read_object-requires : goal.read_series-read_object-requires
+read_series-read_object-requires t c =
+    let now = turn t (goal.at.read_series-read_object-requires t c).In-default in
     let inside = inside_shorter now (omega arith) in
     let at = placed now (omega arith) in
     (omega arith, (omega arith, (at.ordered, (omega arith, (omega arith, before_later _ _ _ at.first c.loop-token.invariant.2)))))
 
-pub read-series-returns-in-err-read-object : goal.read-series-returns-in-err-read-object
-read-series-returns-in-err-read-object t c =
-    let p = err_from_is_err_and c.from-residual-in-err-read-object.result c.from-residual-in-err-read-object.ensures.1 in
-    let said = c.in-err-read-object.ensures in
+pub read_series-returns-in_err-read_object : goal.read_series-returns-in_err-read_object
+read_series-returns-in_err-read_object t c =
+    let p = err_from_is_err_and c.from_residual-in_err-read_object.result c.from_residual-in_err-read_object.ensures.1 in
+    let said = c.in_err-read_object.ensures in
     record {
-      read = rw (p.1, p.2) (after_object (turn t (goal.at.read-series-returns-in-err-read-object t c).In-default) _ _ _ said.read ∙ c.loop-token.invariant.4);
-      rising = IfOk-from_err _ _ c.from-residual-in-err-read-object.ensures.0;
+      read = rw (p.1, p.2) (after_object (turn t (goal.at.read_series-returns-in_err-read_object t c).In-default) _ _ _ said.read ∙ c.loop-token.invariant.4);
+      rising = IfOk-from_err _ _ c.from_residual-in_err-read_object.ensures.0;
       room = said.room;
       named = said.named ∙ c.loop-token.invariant.3;
     }
 
-pub read-series-loop-token-smaller : goal.read-series-loop-token-smaller
-read-series-loop-token-smaller t c = rest_shorter (turn t (goal.at.read-series-loop-token-smaller t c).In-default)
+pub read_series-loop-token-smaller : goal.read_series-loop-token-smaller
+read_series-loop-token-smaller t c = rest_shorter (turn t (goal.at.read_series-loop-token-smaller t c).In-default)
 
-pub read-series-loop-token-preserved : goal.read-series-loop-token-preserved
-read-series-loop-token-preserved t c =
-    let now = turn t (goal.at.read-series-loop-token-preserved t c).In-default in
-    let said = c.in-ok-read-object.ensures in
+pub read_series-loop-token-preserved : goal.read_series-loop-token-preserved
+read_series-loop-token-preserved t c =
+    let now = turn t (goal.at.read_series-loop-token-preserved t c).In-default in
+    let said = c.in_ok-read_object.ensures in
     let at = placed now (omega arith) in (
       omega (arith, rest_shorter now),
       said.room,
-      subst (λ p. Before p (elements c.read-object.new.list)) at.last said.rising,
+      subst (λ p. Before p (elements c.read_object.new.list)) at.last said.rising,
       said.named ∙ c.loop-token.invariant.3,
       after_object now _ _ _ said.read ∙ c.loop-token.invariant.4,
     )

@@ -14,7 +14,7 @@ behind (Err f) xs ys h l = refl
 
 pub returns : goal.returns
 returns c = record {
-  read = behind c.read-places.result c.read-places.new.memory _ c.read-places.ensures.within (search rules) ∙ c.read-places.ensures.read;
-  within = c.read-places.ensures.within;
+  read = behind c.read_places.result c.read_places.new.memory _ c.read_places.ensures.within (search rules) ∙ c.read_places.ensures.read;
+  within = c.read_places.ensures.within;
   exact = exact c.args.text.now;
 }
