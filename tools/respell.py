@@ -21,6 +21,17 @@ DECLARED = re.compile(
 )
 # Facts that were spelled as words.
 FACTS = {"is_taken": "IsTaken"}
+# Names chosen by hand: two definitions of different crates whose names would fall together.
+CHOSEN = {
+    "putAfter": "closed_put_after",
+    "putAnswer": "closed_put_answer",
+    "putTold": "closed_put_told",
+    "put-after": "put_after",
+    "put-answer": "put_answer",
+    "put-told": "put_told",
+    "total-after": "total_after",
+    "write-after": "write_after",
+}
 
 
 def files():
@@ -76,6 +87,7 @@ def make():
     for old, new in table.items():
         if "-" in old and not old[0].isupper() and new in definitions | functions:
             table[old] = new + "_lem"
+    table.update((old, new) for old, new in CHOSEN.items() if old in table)
     news = collections.defaultdict(list)
     for old, new in table.items():
         news[new].append(old)

@@ -10,7 +10,7 @@ use Rattle.tlv.specs.Values.{value_at}
 use Rattle.store.specs.Map.{Map, changed, one, size, count, total}
 use Rattle.store.specs.Maps.{count_changed, total_changed}
 use Rattle.store.specs.declared.writing.Refused.{Refused}
-use Rattle.store.specs.Answer.{passes, put_answer_lem, put_after_lem}
+use Rattle.store.specs.Answer.{passes, put_answer, put_after}
 use Rattle.keeping.specs.Keeping.{stored_by, stored_one, stored, removed_one, removed}
 use Rattle.keeping.specs.Steps.{FreshBy, Fresh, Holds}
 
@@ -19,7 +19,7 @@ abbrev pub blank : Place
 blank = record { tag = 0; at = 0; start = 0; len = 0 }
 
 -- a put that leaves the store within its limits is taken
-pub put_taken : (o b : ℕ) (m : Map) (t : ℕ) (v : List ℕ) → length v ≤ 255 → Holds o b (changed m t (Some v)) → put_answer_lem o b m t v ≡ Ok tt
+pub put_taken : (o b : ℕ) (m : Map) (t : ℕ) (v : List ℕ) → length v ≤ 255 → Holds o b (changed m t (Some v)) → put_answer o b m t v ≡ Ok tt
 put_taken o b m t v short h =
     cond-false _ _ _ (le-ltb 255 (length v) short)
     ∙ cond-false (passes o b (changed m t (Some v))) _ _ (or_from _ _ (le-ltb o (count (changed m t (Some v))) h.few) (le-ltb b (total (changed m t (Some v))) h.small))
@@ -66,16 +66,16 @@ holds_so_far text ps m n o o' b b' f e h p q =
 
 -- a put that is not refused is no error
 pub not_refused : (o b : ℕ) (m : Map) (p : Place) (text v : List ℕ) (t : ℕ) (e : Entry) → entry_of p.tag ≡ Some e → t ≡ p.tag → v ≡ value_at text p
-    → FreshBy text m p (entry_of p.tag) → Holds o b (stored_one text m p) → put_answer_lem o b m t v ≡ Ok tt
+    → FreshBy text m p (entry_of p.tag) → Holds o b (stored_one text m p) → put_answer o b m t v ≡ Ok tt
 not_refused o b m p text v t e known same is f h =
     let F : Option Entry → Type 0 = λ x. FreshBy text m p x in
     let H : Option Entry → Type 0 = λ x. Holds o b (stored_by text m p x) in
-    ap (λ u. put_answer_lem o b m u v) same ∙ ap (λ u. put_answer_lem o b m p.tag u) is
+    ap (λ u. put_answer o b m u v) same ∙ ap (λ u. put_answer o b m p.tag u) is
     ∙ put_taken o b m p.tag (value_at text p) (subst F known f).1 (subst H known h)
 
 pub put_stored : (o b : ℕ) (m n : Map) (p : Place) (text v : List ℕ) (t : ℕ) (e : Entry) (r : Result (Unit {0}) Refused) → entry_of p.tag ≡ Some e → t ≡ p.tag → v ≡ value_at text p
-    → r ≡ put_answer_lem o b m t v → n ≡ put_after_lem r m t v
+    → r ≡ put_answer o b m t v → n ≡ put_after r m t v
     → FreshBy text m p (entry_of p.tag) → Holds o b (stored_one text m p) → n ≡ stored_one text m p
 put_stored o b m n p text v t e r known same is answer after f h =
-    after ∙ ap (λ x. put_after_lem x m t v) (answer ∙ not_refused o b m p text v t e known same is f h)
+    after ∙ ap (λ x. put_after x m t v) (answer ∙ not_refused o b m p text v t e known same is f h)
     ∙ ap (λ u. changed m u (Some v)) same ∙ ap (λ u. changed m p.tag (Some u)) is ∙ sym (ap (stored_by text m p) known)

@@ -6,7 +6,7 @@ use Rattle.dictionary.specs.declared.entry.Writer.TheVariants.{Reader}
 use Rattle.dictionary.specs.Dictionary.{dictionary, entry_of}
 use Rattle.store.specs.Map.{Map, changed, size}
 use Rattle.store.specs.Maps.{changed_here, changed_other}
-use Rattle.store.specs.Answer.{put_answer_lem, put_after_lem}
+use Rattle.store.specs.Answer.{put_answer, put_after}
 use Rattle.judge.specs.declared.kind.TextKind.{TextKind}
 use Rattle.judge.specs.Kinds.{writes}
 use Rattle.keeping.specs.declared.shares.Shares.{Shares}
@@ -66,15 +66,15 @@ module _ (s : Shares) (o b : ℕ) (m : Map) (v : List ℕ) (r : Roomy s o b m) w
       (or_cases (eqb t verification_results) (eqb t error_indication) own)
 
 -- it is not refused
-pub own_put : (s : Shares) (o b : ℕ) (m : Map) (t : ℕ) (v : List ℕ) → reader_tag t ≡ true → length v ≤ reader_length t → Roomy s o b m → put_answer_lem o b m t v ≡ Ok tt
+pub own_put : (s : Shares) (o b : ℕ) (m : Map) (t : ℕ) (v : List ℕ) → reader_tag t ≡ true → length v ≤ reader_length t → Roomy s o b m → put_answer o b m t v ≡ Ok tt
 own_put s o b m t v own short r =
     let got = roomy_own s o b m v r t own short in
     put_taken o b m t v got.0 (roomy_holds s o b (changed m t (Some v)) got.1)
 
-pub own_after : (s : Shares) (o b : ℕ) (m n : Map) (t : ℕ) (v : List ℕ) → reader_tag t ≡ true → length v ≤ reader_length t → n ≡ put_after_lem (put_answer_lem o b m t v) m t v → Roomy s o b m → n ≡ changed m t (Some v)
-own_after s o b m n t v own short after r = after ∙ ap (λ x. put_after_lem x m t v) (own_put s o b m t v own short r)
+pub own_after : (s : Shares) (o b : ℕ) (m n : Map) (t : ℕ) (v : List ℕ) → reader_tag t ≡ true → length v ≤ reader_length t → n ≡ put_after (put_answer o b m t v) m t v → Roomy s o b m → n ≡ changed m t (Some v)
+own_after s o b m n t v own short after r = after ∙ ap (λ x. put_after x m t v) (own_put s o b m t v own short r)
 
-pub own_roomy : (s : Shares) (o b o' b' : ℕ) (m n : Map) (t : ℕ) (v : List ℕ) → reader_tag t ≡ true → length v ≤ reader_length t → n ≡ put_after_lem (put_answer_lem o b m t v) m t v → o' ≡ o → b' ≡ b → Roomy s o b m → Roomy s o' b' n
+pub own_roomy : (s : Shares) (o b o' b' : ℕ) (m n : Map) (t : ℕ) (v : List ℕ) → reader_tag t ≡ true → length v ≤ reader_length t → n ≡ put_after (put_answer o b m t v) m t v → o' ≡ o → b' ≡ b → Roomy s o b m → Roomy s o' b' n
 own_roomy s o b o' b' m n t v own short after p q r =
     roomy_moved s o b o' b' (changed m t (Some v)) n (own_after s o b m n t v own short after r) p q (roomy_own s o b m v r t own short).1
 

@@ -3,7 +3,7 @@ use Rattle.std.proofs.Common.{◌≡◌, ℕ, Bool, true, false, cond, ltb, List
 use Rattle.std.specs.Option.{option_map}
 use Rattle.store.specs.declared.writing.Refused.{Refused}
 use Rattle.store.specs.declared.reading.Copied.TheVariants.{Short, Filled}
-use Rattle.store.specs.Answer.{copy_answer, copy_after, put_answer_lem, put_after_lem}
+use Rattle.store.specs.Answer.{copy_answer, copy_after, put_answer, put_after}
 use Rattle.std.proofs.lemmas.Bool.{cond-true, cond-false, cases_Bool}
 use Rattle.std.proofs.lemmas.List.{take_at, drop_at}
 use Rattle.store.specs.Map.{Map, changed, count, total}
@@ -68,7 +68,7 @@ put_masked_map pad m t v x e =
     ∙ ap (λ w. changed (unmasked pad m) t (Some w)) (ap (masked pad t) e ∙ masked_masked pad t v)
 
 pub put_answer_masked : (pad : List ℕ) (o b : ℕ) (m : Map) (t : ℕ) (v x : List ℕ) → x ≡ masked pad t v
-    → put_answer_lem o b m t x ≡ put_answer_lem o b (unmasked pad m) t v
+    → put_answer o b m t x ≡ put_answer o b (unmasked pad m) t v
 put_answer_masked pad o b m t v x e =
     let n : length x ≡ length v = ap length e ∙ length_masked pad t v in
     let c : count (changed m t (Some x)) ≡ count (changed (unmasked pad m) t (Some v)) =
@@ -78,6 +78,6 @@ put_answer_masked pad o b m t v x e =
     cc
 
 pub put_after_masked : (pad : List ℕ) (r : Result (Unit {0}) Refused) (m n : Map) (t : ℕ) (v x : List ℕ) → x ≡ masked pad t v
-    → n ≡ put_after_lem r m t x → unmasked pad n ≡ put_after_lem r (unmasked pad m) t v
+    → n ≡ put_after r m t x → unmasked pad n ≡ put_after r (unmasked pad m) t v
 put_after_masked pad (Ok y) m n t v x e a = ap (unmasked pad) a ∙ put_masked_map pad m t v x e
 put_after_masked pad (Err y) m n t v x e a = ap (unmasked pad) a

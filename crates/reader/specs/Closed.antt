@@ -1,7 +1,7 @@
 -- Puts and drops in the store of a reader, which an open reader refuses.
 use Rattle.std.specs.Prelude.{ℕ, Bool, true, false, cond, List, is_some, Some, None, Ok, Err, Result}
 use Rattle.store.specs.Map.{Map, changed}
-use Rattle.store.specs.Answer.{put_answer_lem}
+use Rattle.store.specs.Answer.{put_answer}
 use Rattle.store.specs.declared.writing.Refused.{Refused}
 use Rattle.run.specs.declared.refusal.Refusal.{Refusal}
 use Rattle.run.specs.declared.refusal.Refusal.TheVariants.{AlreadyOpen}
@@ -10,18 +10,18 @@ use Rattle.reader.specs.declared.reader.closed.PutRefusal.{PutRefusal}
 use Rattle.reader.specs.declared.reader.closed.PutRefusal.TheVariants.{Open, Store}
 
 -- the store's answer
-abbrev pub put_told : Result (Unit {0}) Refused → Result (Unit {0}) PutRefusal
-put_told (Ok x) = Ok x
-put_told (Err e) = Err (Store e)
+abbrev pub closed_put_told : Result (Unit {0}) Refused → Result (Unit {0}) PutRefusal
+closed_put_told (Ok x) = Ok x
+closed_put_told (Err e) = Err (Store e)
 
 -- what a put answers: an open reader refuses, and else the store answers
-abbrev pub put_answer : Meaning → ℕ → List ℕ → Result (Unit {0}) PutRefusal
-put_answer m t v = cond m.opened (Err Open) (put_told (put_answer_lem m.limits.objects m.limits.bytes m.held t v))
+abbrev pub closed_put_answer : Meaning → ℕ → List ℕ → Result (Unit {0}) PutRefusal
+closed_put_answer m t v = cond m.opened (Err Open) (closed_put_told (put_answer m.limits.objects m.limits.bytes m.held t v))
 
 -- what is held after that answer
-abbrev pub put_after : Result (Unit {0}) PutRefusal → Map → ℕ → List ℕ → Map
-put_after (Ok x) held t v = changed held t (Some v)
-put_after (Err e) held t v = held
+abbrev pub closed_put_after : Result (Unit {0}) PutRefusal → Map → ℕ → List ℕ → Map
+closed_put_after (Ok x) held t v = changed held t (Some v)
+closed_put_after (Err e) held t v = held
 
 -- what a drop answers: an open reader refuses, and else whether the tag was held
 abbrev pub remove_answer : Meaning → ℕ → Result Bool Refusal

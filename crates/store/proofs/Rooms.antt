@@ -4,14 +4,14 @@ use Rattle.std.specs.Option.{option_map}
 use Rattle.std.proofs.lemmas.Bool.{or_parts, ltb-false, cond-false, le-ltb}
 use Rattle.store.specs.Map.{Map, changed, one, size, count, total}
 use Rattle.store.specs.declared.writing.Refused.TheVariants.{TooLong, NoRoom}
-use Rattle.store.specs.Answer.{passes, count_after, total_after_lem, put_answer_lem}
+use Rattle.store.specs.Answer.{passes, count_after, total_after, put_answer}
 use Rattle.store.specs.Maps.{count_changed, total_changed, changed_here, changed_changed}
 
 counts : (o : Option (List ℕ)) (c c' : ℕ) → c' + one o ≡ c + 1 → c' ≡ count_after c (option_map length o)
 counts None c c' e = omega arith
 counts (Some w) c c' e = omega arith
 
-totals : (o : Option (List ℕ)) (s s' n : ℕ) → size o ≤ s → s' + size o ≡ s + n → s' ≡ total_after_lem s (option_map length o) n
+totals : (o : Option (List ℕ)) (s s' n : ℕ) → size o ≤ s → s' + size o ≡ s + n → s' ≡ total_after s (option_map length o) n
 totals None s s' n l e = omega arith
 totals (Some w) s s' n l e = omega arith
 
@@ -26,11 +26,11 @@ pub held_le_total : (m : Map) (t : ℕ) → t < 16777216 → IfSome (option_map 
 held_le_total m t l = held_le (m t) (total m) (size_le_total m t l)
 
 pub passes_after : (o b : ℕ) (m : Map) (t : ℕ) (v : List ℕ) → t < 16777216
-    → passes o b (changed m t (Some v)) ≡ (ltb o (count_after (count m) (option_map length (m t))) || ltb b (total_after_lem (total m) (option_map length (m t)) (length v)))
+    → passes o b (changed m t (Some v)) ≡ (ltb o (count_after (count m) (option_map length (m t))) || ltb b (total_after (total m) (option_map length (m t)) (length v)))
 passes_after o b m t v l =
     let c : count (changed m t (Some v)) ≡ count_after (count m) (option_map length (m t)) =
     counts (m t) (count m) (count (changed m t (Some v))) (count_changed m t (Some v) l) in
-    let s : total (changed m t (Some v)) ≡ total_after_lem (total m) (option_map length (m t)) (length v) =
+    let s : total (changed m t (Some v)) ≡ total_after (total m) (option_map length (m t)) (length v) =
     totals (m t) (total m) (total (changed m t (Some v))) (length v) (size_le_total m t l) (total_changed m t (Some v) l) in
     cc
 
@@ -61,11 +61,11 @@ held_le_as m t h s l e f =
 
 pub room_answer : (o b c s : ℕ) (h : Option ℕ) (m : Map) (t : ℕ) (v : List ℕ) → t < 16777216
     → h ≡ option_map length (m t) → c ≡ count m → s ≡ total m
-    → not (ltb o (count_after c h) || ltb b (total_after_lem s h (length v))) ≡ not (passes o b (changed m t (Some v)))
+    → not (ltb o (count_after c h) || ltb b (total_after s h (length v))) ≡ not (passes o b (changed m t (Some v)))
 room_answer o b c s h m t v l e f g = let p = passes_after o b m t v l in cc
 
 pub put_taken : (o b : ℕ) (m : Map) (t : ℕ) (v : List ℕ) → length v ≤ 255 → passes o b (changed m t (Some v)) ≡ false
-    → Ok tt ≡ put_answer_lem o b m t v
+    → Ok tt ≡ put_answer o b m t v
 put_taken o b m t v l p =
     sym (cond-false (ltb 255 (length v)) (Err TooLong) (cond (passes o b (changed m t (Some v))) (Err NoRoom) (Ok tt)) (le-ltb 255 (length v) l)
     ∙ cond-false (passes o b (changed m t (Some v))) (Err NoRoom) (Ok tt) p)

@@ -21,20 +21,20 @@ abbrev pub passes : ℕ → ℕ → Map → Bool
 passes objects bytes m = nat_lt objects (count m) || nat_lt bytes (total m)
 
 -- putting v at t, under the limits
-abbrev pub put_answer_lem : ℕ → ℕ → Map → ℕ → List ℕ → Result (Unit {0}) Refused
-put_answer_lem objects bytes m t v =
+abbrev pub put_answer : ℕ → ℕ → Map → ℕ → List ℕ → Result (Unit {0}) Refused
+put_answer objects bytes m t v =
     cond (nat_lt 255 (length v)) (Err TooLong) (cond (passes objects bytes (changed m t (Some v))) (Err NoRoom) (Ok tt))
 
 -- what the map is after that answer
-abbrev pub put_after_lem : Result (Unit {0}) Refused → Map → ℕ → List ℕ → Map
-put_after_lem (Ok x) m t v = changed m t (Some v)
-put_after_lem (Err e) m t v = m
+abbrev pub put_after : Result (Unit {0}) Refused → Map → ℕ → List ℕ → Map
+put_after (Ok x) m t v = changed m t (Some v)
+put_after (Err e) m t v = m
 
 -- objects and value bytes after putting n bytes at a tag whose value has the length l, if any
 abbrev pub count_after : ℕ → Option ℕ → ℕ
 count_after c None = c + 1
 count_after c (Some l) = c
 
-abbrev pub total_after_lem : ℕ → Option ℕ → ℕ → ℕ
-total_after_lem s None n = s + n
-total_after_lem s (Some l) n = s - l + n
+abbrev pub total_after : ℕ → Option ℕ → ℕ → ℕ
+total_after s None n = s + n
+total_after s (Some l) n = s - l + n

@@ -8,7 +8,7 @@ use Rattle.store.specs.declared.steps.Step.TheVariants.{Put, Drop}
 use Rattle.store.specs.declared.steps.StepAnswer.{StepAnswer}
 use Rattle.store.specs.declared.steps.StepAnswer.TheVariants.{Taken, NotTaken, WasHeld, WasAbsent}
 use Rattle.store.specs.Map.{Map, changed}
-use Rattle.store.specs.Answer.{put_answer_lem, put_after_lem}
+use Rattle.store.specs.Answer.{put_answer, put_after}
 
 -- m without those tags
 abbrev pub cleared : List Tag → Map → Map
@@ -20,19 +20,19 @@ abbrev pub value_in : List ℕ → Part → List ℕ
 value_in text p = take p.len (drop p.start text)
 
 -- a put's answer, as a step's
-abbrev pub put_told_lem : Result (Unit {0}) Refused → StepAnswer
-put_told_lem (Ok x) = Taken
-put_told_lem (Err e) = NotTaken e
+abbrev pub put_told : Result (Unit {0}) Refused → StepAnswer
+put_told (Ok x) = Taken
+put_told (Err e) = NotTaken e
 
 -- what a step answers, under the limits, where the map is m
 abbrev pub step_answer : ℕ → ℕ → List ℕ → Map → Step → StepAnswer
-step_answer objects bytes text m (Put t p) = put_told_lem (put_answer_lem objects bytes m t.value (value_in text p))
+step_answer objects bytes text m (Put t p) = put_told (put_answer objects bytes m t.value (value_in text p))
 step_answer objects bytes text m (Drop t) = cond (is_some (m t.value)) WasHeld WasAbsent
 
 -- the map after it
 abbrev pub step_after : ℕ → ℕ → List ℕ → Map → Step → Map
 step_after objects bytes text m (Put t p) =
-    put_after_lem (put_answer_lem objects bytes m t.value (value_in text p)) m t.value (value_in text p)
+    put_after (put_answer objects bytes m t.value (value_in text p)) m t.value (value_in text p)
 step_after objects bytes text m (Drop t) = changed m t.value None
 
 -- what a list of steps answers, from the map m on

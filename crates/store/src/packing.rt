@@ -2,7 +2,7 @@
 ghost use Rattle.std.specs.Prelude.{◌≡◌, ◌+◌, ◌<◌, ◌≤◌, not, ◌||◌, length, is_some, IfSome, Some, None, nat_lt};
 ghost use Rattle.std.specs.Option.{option_map};
 ghost use Rattle.store.specs.Map.{changed, count, total};
-ghost use Rattle.store.specs.Answer.{passes, put_answer_lem, put_after_lem, count_after, total_after_lem};
+ghost use Rattle.store.specs.Answer.{passes, put_answer, put_after, count_after, total_after};
 
 use crate::reading::ReadStore;
 use crate::writing::Refused;
@@ -41,7 +41,7 @@ fn room(
     n: usize,
 ) -> bool
     requires { (count ≤ objects) × (total ≤ bytes) × IfSome held (λ l. l ≤ total) }
-    ensures { result ≡ not (nat_lt objects (count_after count held) || nat_lt bytes (total_after_lem total held n)) }
+    ensures { result ≡ not (nat_lt objects (count_after count held) || nat_lt bytes (total_after total held n)) }
 {
     match held {
         None => count < objects && n <= bytes - total,
@@ -70,8 +70,8 @@ fn has_room<S: ReadStore>(s: &S, tag: Tag, value: &[u8], held: Option<usize>) ->
 // which moves what lies behind it once, and the new one is added at the end.
 fn put_short<S: Pack>(s: &mut S, tag: Tag, value: &[u8]) -> Result<(), Refused>
     requires { length value.now ≤ 255 }
-    ensures answer { result ≡ put_answer_lem (S.ReadStore.objects s.old) (S.ReadStore.bytes s.old) (S.ReadStore.held s.old) tag.value value.now }
-    ensures after { S.ReadStore.held s.new ≡ put_after_lem result (S.ReadStore.held s.old) tag.value value.now }
+    ensures answer { result ≡ put_answer (S.ReadStore.objects s.old) (S.ReadStore.bytes s.old) (S.ReadStore.held s.old) tag.value value.now }
+    ensures after { S.ReadStore.held s.new ≡ put_after result (S.ReadStore.held s.old) tag.value value.now }
     ensures limits { (S.ReadStore.objects s.new ≡ S.ReadStore.objects s.old) × (S.ReadStore.bytes s.new ≡ S.ReadStore.bytes s.old) }
 {
     let held = s.length_of(tag);
@@ -91,8 +91,8 @@ fn put_short<S: Pack>(s: &mut S, tag: Tag, value: &[u8]) -> Result<(), Refused>
 
 // Putting, for every such store.
 pub fn put_in<S: Pack>(s: &mut S, tag: Tag, value: &[u8]) -> Result<(), Refused>
-    ensures answer { result ≡ put_answer_lem (S.ReadStore.objects s.old) (S.ReadStore.bytes s.old) (S.ReadStore.held s.old) tag.value value.now }
-    ensures after { S.ReadStore.held s.new ≡ put_after_lem result (S.ReadStore.held s.old) tag.value value.now }
+    ensures answer { result ≡ put_answer (S.ReadStore.objects s.old) (S.ReadStore.bytes s.old) (S.ReadStore.held s.old) tag.value value.now }
+    ensures after { S.ReadStore.held s.new ≡ put_after result (S.ReadStore.held s.old) tag.value value.now }
     ensures limits { (S.ReadStore.objects s.new ≡ S.ReadStore.objects s.old) × (S.ReadStore.bytes s.new ≡ S.ReadStore.bytes s.old) }
 {
     if value.len() > 255 {

@@ -1,7 +1,7 @@
 // Writing a store.
 ghost use Rattle.std.specs.Prelude.{◌≡◌, is_some, None};
 ghost use Rattle.store.specs.Map.{changed};
-ghost use Rattle.store.specs.Answer.{put_answer_lem, put_after_lem};
+ghost use Rattle.store.specs.Answer.{put_answer, put_after};
 
 use crate::reading::ReadStore;
 use keyed::tag::Tag;
@@ -18,8 +18,8 @@ pub enum Refused {
 pub trait WriteStore: ReadStore {
     // Holds the value under the tag, in the place of what was held there.
     fn put(&mut self, tag: Tag, value: &[u8]) -> Result<(), Refused>
-        ensures answer { result ≡ put_answer_lem (objects self.old) (bytes self.old) (held self.old) tag.value value.now }
-        ensures after { held self.new ≡ put_after_lem result (held self.old) tag.value value.now }
+        ensures answer { result ≡ put_answer (objects self.old) (bytes self.old) (held self.old) tag.value value.now }
+        ensures after { held self.new ≡ put_after result (held self.old) tag.value value.now }
         ensures limits { (objects self.new ≡ objects self.old) × (bytes self.new ≡ bytes self.old) };
 
     // Holds the tag no longer; whether it was held.

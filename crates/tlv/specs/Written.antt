@@ -36,9 +36,9 @@ write_answer t v room =
     (cond (nat_lt room (length (object_bytes t v))) (Err Short) (Ok (length (object_bytes t v)))))
 
 -- what the buffer holds after that answer
-abbrev pub write_after_lem : Result ℕ WriteRefusal → ℕ → List ℕ → List ℕ → List ℕ
-write_after_lem (Ok n) t v out = at_front (object_bytes t v) out
-write_after_lem (Err e) t v out = out
+abbrev pub write_after : Result ℕ WriteRefusal → ℕ → List ℕ → List ℕ → List ℕ
+write_after (Ok n) t v out = at_front (object_bytes t v) out
+write_after (Err e) t v out = out
 
 -- Whatever stands behind it, what stands next is the object of that tag and value, and then what stands behind.
 abbrev pub ReadsBack : ℕ → List ℕ → List ℕ → Type 0

@@ -2,7 +2,7 @@
 ghost use Rattle.std.specs.Prelude.{◌≡◌};
 ghost use Rattle.reader.specs.Meanings.{meaning};
 ghost use Rattle.run.specs.State.{holding};
-ghost use Rattle.reader.specs.Closed.{put_answer, put_after, remove_answer, remove_after};
+ghost use Rattle.reader.specs.Closed.{closed_put_answer, closed_put_after, remove_answer, remove_after};
 
 use crate::reader::Reader;
 use keyed::tag::Tag;
@@ -21,8 +21,8 @@ pub enum PutRefusal {
 impl<S: WriteStore> Reader<S> {
     // Puts an object into the store of a reader that is not open.
     pub fn put(&mut self, tag: Tag, value: &[u8]) -> Result<(), PutRefusal>
-        ensures answer { result ≡ put_answer (meaning S.ReadStore self.old) tag.value value.now }
-        ensures after { meaning S.ReadStore self.new ≡ holding (meaning S.ReadStore self.old) (put_after result (meaning S.ReadStore self.old).held tag.value value.now) }
+        ensures answer { result ≡ closed_put_answer (meaning S.ReadStore self.old) tag.value value.now }
+        ensures after { meaning S.ReadStore self.new ≡ holding (meaning S.ReadStore self.old) (closed_put_after result (meaning S.ReadStore self.old).held tag.value value.now) }
     {
         if self.opened {
             return Err(PutRefusal::Open);

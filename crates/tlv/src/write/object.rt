@@ -1,6 +1,6 @@
 // Writes objects.
 ghost use Rattle.std.specs.Prelude.{◌≡◌, ◌+◌, ◌<◌, ◌≤◌, true, ◌++◌, length, take, IfOk};
-ghost use Rattle.tlv.specs.Written.{is_tag, head_bytes, object_bytes, at_front, write_answer, write_after_lem, ReadsBack};
+ghost use Rattle.tlv.specs.Written.{is_tag, head_bytes, object_bytes, at_front, write_answer, write_after, ReadsBack};
 
 use super::WriteRefusal;
 
@@ -89,7 +89,7 @@ fn put_object(tag: u32, value: &[u8], out: &mut [u8]) -> Result<usize, WriteRefu
     requires small { tag < 16777216 }
     requires short { length value.now ≤ 255 }
     ensures answer { result ≡ write_answer tag value.now (length out.old) }
-    ensures after { out.new ≡ write_after_lem result tag value.now out.old }
+    ensures after { out.new ≡ write_after result tag value.now out.old }
     ensures back { IfOk result (λ n. ReadsBack tag value.now (take n out.new)) }
 {
     let head = head_of(tag, value.len() as u8);
@@ -105,7 +105,7 @@ fn put_object(tag: u32, value: &[u8], out: &mut [u8]) -> Result<usize, WriteRefu
 // Writes an object to the buffer's front, the rest unchanged; how many bytes it has.
 pub fn write_object(tag: u32, value: &[u8], out: &mut [u8]) -> Result<usize, WriteRefusal>
     ensures answer { result ≡ write_answer tag value.now (length out.old) }
-    ensures after { out.new ≡ write_after_lem result tag value.now out.old }
+    ensures after { out.new ≡ write_after result tag value.now out.old }
     ensures back { IfOk result (λ n. ReadsBack tag value.now (take n out.new)) }
 {
     if !is_tag(tag) {

@@ -1,5 +1,5 @@
 use Rattle.std.proofs.Common.{◌≡◌, ap, ◌∙◌}
-use Rattle.store.specs.Answer.{put_answer_lem, put_after_lem}
+use Rattle.store.specs.Answer.{put_answer, put_after}
 use Rattle.keeping.proofs.Owns.{own_after, own_roomy}
 use Rattle.keeping.proofs.reader.put_own.Goals as goal
 
@@ -12,9 +12,9 @@ returns g c =
     let n = g.S.ReadStore.held c.put.new.self in
     let t = c.args.tag in
     let v = c.args.value.now in
-    let put : n ≡ put_after_lem (put_answer_lem o b m t v) m t v =
-    c.put.ensures.after ∙ ap (λ r. put_after_lem r m c.in-Some.tag.value v) c.put.ensures.answer
-    ∙ ap (λ u. put_after_lem (put_answer_lem o b m u v) m u v) c.in-Some.ensures in
+    let put : n ≡ put_after (put_answer o b m t v) m t v =
+    c.put.ensures.after ∙ ap (λ r. put_after r m c.in-Some.tag.value v) c.put.ensures.answer
+    ∙ ap (λ u. put_after (put_answer o b m u v) m u v) c.in-Some.ensures in
     record {
       put = put;
       after = λ s r. own_after s o b m n t v c.requires.tag c.requires.short put r;
