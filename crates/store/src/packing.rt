@@ -13,22 +13,22 @@ use keyed::tag::Tag;
 pub trait Pack: ReadStore {
     // Holds the tag no longer; whether it was held.
     fn take_out(&mut self, tag: Tag) -> bool
-        ensures answer { result ≡ is_some (held self.old tag.value) }
-        ensures after { held self.new ≡ changed (held self.old) tag.value None }
-        ensures limits { (objects self.new ≡ objects self.old) × (bytes self.new ≡ bytes self.old) };
+        ensures answer { result ≡ is_some (Self.held self.old tag.value) }
+        ensures after { Self.held self.new ≡ changed (Self.held self.old) tag.value None }
+        ensures limits { (Self.objects self.new ≡ Self.objects self.old) × (Self.bytes self.new ≡ Self.bytes self.old) };
 
     // Adds an object that is not held, where there is room for it.
     fn append(&mut self, tag: Tag, value: &[u8])
-        requires absent { held self.old tag.value ≡ None }
-        requires room { (length value.now ≤ 255) × (count (held self.old) < objects self.old) × (total (held self.old) + length value.now ≤ bytes self.old) }
-        ensures after { held self.new ≡ changed (held self.old) tag.value (Some value.now) }
-        ensures limits { (objects self.new ≡ objects self.old) × (bytes self.new ≡ bytes self.old) };
+        requires absent { Self.held self.old tag.value ≡ None }
+        requires room { (length value.now ≤ 255) × (count (Self.held self.old) < Self.objects self.old) × (total (Self.held self.old) + length value.now ≤ Self.bytes self.old) }
+        ensures after { Self.held self.new ≡ changed (Self.held self.old) tag.value (Some value.now) }
+        ensures limits { (Self.objects self.new ≡ Self.objects self.old) × (Self.bytes self.new ≡ Self.bytes self.old) };
 
     // Writes the value over a held one of the same length; no other byte moves.
     fn overwrite(&mut self, tag: Tag, value: &[u8])
-        requires { option_map length (held self.old tag.value) ≡ Some (length value.now) }
-        ensures after { held self.new ≡ changed (held self.old) tag.value (Some value.now) }
-        ensures limits { (objects self.new ≡ objects self.old) × (bytes self.new ≡ bytes self.old) };
+        requires { option_map length (Self.held self.old tag.value) ≡ Some (length value.now) }
+        ensures after { Self.held self.new ≡ changed (Self.held self.old) tag.value (Some value.now) }
+        ensures limits { (Self.objects self.new ≡ Self.objects self.old) × (Self.bytes self.new ≡ Self.bytes self.old) };
 }
 
 // Whether `n` bytes may take the place of a value of length `held`, in a store of that many objects and value bytes.

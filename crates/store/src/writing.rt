@@ -18,13 +18,13 @@ pub enum Refused {
 pub trait WriteStore: ReadStore {
     // Holds the value under the tag, in the place of what was held there.
     fn put(&mut self, tag: Tag, value: &[u8]) -> Result<(), Refused>
-        ensures answer { result ≡ put_answer (objects self.old) (bytes self.old) (held self.old) tag.value value.now }
-        ensures after { held self.new ≡ put_after result (held self.old) tag.value value.now }
-        ensures limits { (objects self.new ≡ objects self.old) × (bytes self.new ≡ bytes self.old) };
+        ensures answer { result ≡ put_answer (Self.objects self.old) (Self.bytes self.old) (Self.held self.old) tag.value value.now }
+        ensures after { Self.held self.new ≡ put_after result (Self.held self.old) tag.value value.now }
+        ensures limits { (Self.objects self.new ≡ Self.objects self.old) × (Self.bytes self.new ≡ Self.bytes self.old) };
 
     // Holds the tag no longer; whether it was held.
     fn remove(&mut self, tag: Tag) -> bool
-        ensures answer { result ≡ is_some (held self.old tag.value) }
-        ensures after { held self.new ≡ changed (held self.old) tag.value None }
-        ensures limits { (objects self.new ≡ objects self.old) × (bytes self.new ≡ bytes self.old) };
+        ensures answer { result ≡ is_some (Self.held self.old tag.value) }
+        ensures after { Self.held self.new ≡ changed (Self.held self.old) tag.value None }
+        ensures limits { (Self.objects self.new ≡ Self.objects self.old) × (Self.bytes self.new ≡ Self.bytes self.old) };
 }
