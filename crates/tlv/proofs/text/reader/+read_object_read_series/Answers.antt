@@ -10,10 +10,10 @@ use Rattle.tlv.specs.Rising.{Before, Ordered, first_place, last_place}
 use Rattle.tlv.proofs.Steps.{Turn, inside_length, rest_shorter, inside_shorter, after_object, at_fault, at_end_lem}
 use Rattle.tlv.proofs.Order.{before_later, key_free, placed}
 use Rattle.tlv.proofs.text.reader.+read_object_read_series.Goals as goal
-use Rattle.tlv.proofs.text.reader.+read_object_read_series.Goals.{read_series-In-default}
+use Rattle.tlv.proofs.text.reader.+read_object_read_series.Goals.{read_series-In_default}
 
 -- what the loop knows once it has read a token that is not the end
-turn : (t : ℕ) (c : read_series-In-default t) → Turn c.args.end c.loop-token.rest.now c.in_ok-token.after.now c.in_ok-token.token
+turn : (t : ℕ) (c : read_series-In_default t) → Turn c.args.end c.loop-token.rest.now c.in_ok-token.after.now c.in_ok-token.token
 turn t c = record { apart = c.in_default.not-End; read = c.in_ok-token.ensures }
 
 -- a key that is not there is not told to be there
@@ -27,8 +27,8 @@ read_object-unreachable-requires t c =
     let b = subst (λ k. Before (first_place (meant k)) (elements c.args.list.now)) c.in-Primitive-2.is c.requires.rising in
     not_there _ _ (key_free (place c.in-Primitive-2.tag c.in-Primitive-2.at c.in-Primitive-2.start (length c.in-Primitive-2.value.now)) (elements c.args.list.now) b) c.in-AlreadyThere.ensures.answer
 
-pub read_object_read_series-requires : goal.read_object_read_series-requires
-read_object_read_series-requires t c =
+pub read_object-read_series-requires : goal.read_object-read_series-requires
+read_object-read_series-requires t c =
     let b = subst (λ k. Before (first_place (meant k)) (elements c.args.list.now)) c.in-Constructed.is c.requires.rising in
     let o = subst (λ k. Ordered (meant k)) c.in-Constructed.is c.requires.ordered in
     let size = ap (λ k. inside_length (meant k)) c.in-Constructed.is in
@@ -69,7 +69,7 @@ read_series-returns-in-End t c = record {
 
 pub read_series-read_object-requires : goal.read_series-read_object-requires
 read_series-read_object-requires t c =
-    let now = turn t (goal.at.read_series-read_object-requires t c).In-default in
+    let now = turn t (goal.at.read_series-read_object-requires t c).In_default in
     let inside = inside_shorter now (omega arith) in
     let at = placed now (omega arith) in
     (omega arith, (omega arith, (at.ordered, (omega arith, (omega arith, before_later _ _ _ at.first c.loop-token.invariant.2)))))
@@ -79,18 +79,18 @@ read_series-returns-in_err-read_object t c =
     let p = err_from_is_err_and c.from_residual-in_err-read_object.result c.from_residual-in_err-read_object.ensures.1 in
     let said = c.in_err-read_object.ensures in
     record {
-      read = rw (p.1, p.2) (after_object (turn t (goal.at.read_series-returns-in_err-read_object t c).In-default) _ _ _ said.read ∙ c.loop-token.invariant.4);
+      read = rw (p.1, p.2) (after_object (turn t (goal.at.read_series-returns-in_err-read_object t c).In_default) _ _ _ said.read ∙ c.loop-token.invariant.4);
       rising = IfOk-from_err _ _ c.from_residual-in_err-read_object.ensures.0;
       room = said.room;
       named = said.named ∙ c.loop-token.invariant.3;
     }
 
 pub read_series-loop-token-smaller : goal.read_series-loop-token-smaller
-read_series-loop-token-smaller t c = rest_shorter (turn t (goal.at.read_series-loop-token-smaller t c).In-default)
+read_series-loop-token-smaller t c = rest_shorter (turn t (goal.at.read_series-loop-token-smaller t c).In_default)
 
 pub read_series-loop-token-preserved : goal.read_series-loop-token-preserved
 read_series-loop-token-preserved t c =
-    let now = turn t (goal.at.read_series-loop-token-preserved t c).In-default in
+    let now = turn t (goal.at.read_series-loop-token-preserved t c).In_default in
     let said = c.in_ok-read_object.ensures in
     let at = placed now (omega arith) in (
       omega (arith, rest_shorter now),
