@@ -6,7 +6,7 @@ use Rattle.store.specs.Map.{Map}
 use Rattle.tlv.specs.Written.{is_tag}
 use Rattle.readout.specs.declared.object.Absent.TheVariants.{Empty}
 use Rattle.readout.specs.declared.refusal.ReadoutRefusal.{ReadoutRefusal}
-use Rattle.readout.specs.Shown.{object_of, given, shown, objects_at, AllTags}
+use Rattle.readout.specs.Shown.{object_of, given, objects_at, AllTags}
 use Rattle.readout.specs.Wanted.{wanted_tags, value_of, wanted_by, tags_in, wanted_at, each_of, wanted_objects, OnlyWanted}
 
 given_each : (t : ℕ) (o : Option (List ℕ)) → given Empty t o ≡ (object_of t (value_of o) ∷ [])

@@ -1,5 +1,5 @@
 -- What the functions below the public ones tell.
-use Rattle.std.specs.Prelude.{◌≡◌, ℕ, ◌≤◌, cond, List, [], ◌∷◌, length, take, Some, None, Option}
+use Rattle.std.specs.Prelude.{◌≡◌, ℕ, ◌≤◌, cond, List, [], ◌∷◌, take, Some, None, Option}
 use Rattle.tlv.specs.Written.{is_tag}
 use Rattle.readout.specs.Shown.{Object, object_of}
 

@@ -25,7 +25,7 @@ fn record_tags() -> &'static [u32]
 
 // Whether a tag is held: whether there is an object to write.
 fn is_held<S: ReadStore>(store: &S, tag: u32) -> bool
-    ensures value { result ≡ some (held_objects tag (held store.now)) }
+    ensures value { result ≡ some (held_objects tag (S.held store.now)) }
     ensures only { OnlyHeld tag }
 {
     size_of(store, Absent::LeftOut, tag) != 0
@@ -37,9 +37,9 @@ pub fn write_held<S: ReadStore>(
     tag: u32,
     out: &mut [u8],
 ) -> Result<usize, ReadoutRefusal>
-    ensures answer { result ≡ held_answer (held_objects tag (held store.now)) (length out.old) }
-    ensures after { out.new ≡ write_after result (bytes_of (held_objects tag (held store.now))) out.old }
-    ensures reads { ReadsAs result out.new (held_objects tag (held store.now)) }
+    ensures answer { result ≡ held_answer (held_objects tag (S.held store.now)) (length out.old) }
+    ensures after { out.new ≡ write_after result (bytes_of (held_objects tag (S.held store.now))) out.old }
+    ensures reads { ReadsAs result out.new (held_objects tag (S.held store.now)) }
     ensures only { OnlyHeld tag }
 {
     if !is_held(store, tag) {
@@ -50,9 +50,9 @@ pub fn write_held<S: ReadStore>(
 
 // Writes the Data Record, the held objects of its tags, to the buffer's front, the rest unchanged: how many bytes.
 pub fn write_record<S: ReadStore>(store: &S, out: &mut [u8]) -> Result<usize, ReadoutRefusal>
-    ensures answer { result ≡ fit_answer (bytes_of (record_objects (held store.now))) (length out.old) }
-    ensures after { out.new ≡ write_after result (bytes_of (record_objects (held store.now))) out.old }
-    ensures reads { ReadsAs result out.new (record_objects (held store.now)) }
+    ensures answer { result ≡ fit_answer (bytes_of (record_objects (S.held store.now))) (length out.old) }
+    ensures after { out.new ≡ write_after result (bytes_of (record_objects (S.held store.now))) out.old }
+    ensures reads { ReadsAs result out.new (record_objects (S.held store.now)) }
     ensures only { OnlyRecord }
     ensures whole { AllTags record_tags }
 {

@@ -20,7 +20,7 @@ pub(crate) enum Absent {
 
 // Copies the value of a tag to the front of `value`: its length, none if the tag is not held.
 pub(crate) fn fetch<S: ReadStore>(store: &S, tag: u32, value: &mut [u8; 255]) -> Option<usize>
-    ensures { Fetched result (held store.now tag) value.new }
+    ensures { Fetched result (S.held store.now tag) value.new }
 {
     let Some(tag) = Tag::new(tag) else {
         return None;
@@ -47,8 +47,8 @@ fn object_bytes(tag: u32, value: &[u8], room: &mut [u8; 260]) -> usize
 
 // Writes the object that is shown for a tag to the front of `room`: how many bytes.
 fn shown_bytes<S: ReadStore>(store: &S, absent: Absent, tag: u32, room: &mut [u8; 260]) -> usize
-    ensures value { result ≡ length (bytes_of (shown absent tag (held store.now tag))) }
-    ensures front { take result room.new ≡ bytes_of (shown absent tag (held store.now tag)) }
+    ensures value { result ≡ length (bytes_of (shown absent tag (S.held store.now tag))) }
+    ensures front { take result room.new ≡ bytes_of (shown absent tag (S.held store.now tag)) }
     ensures small { result ≤ 260 }
 {
     let mut value = [0u8; 255];
@@ -65,7 +65,7 @@ fn shown_bytes<S: ReadStore>(store: &S, absent: Absent, tag: u32, room: &mut [u8
 
 // How many bytes the object that is shown for a tag has.
 pub(crate) fn size_of<S: ReadStore>(store: &S, absent: Absent, tag: u32) -> usize
-    ensures value { result ≡ length (bytes_of (shown absent tag (held store.now tag))) }
+    ensures value { result ≡ length (bytes_of (shown absent tag (S.held store.now tag))) }
     ensures small { result ≤ 260 }
 {
     let mut room = [0u8; 260];
@@ -84,9 +84,9 @@ fn put_at(out: &mut [u8], at: usize, bytes: &[u8])
 
 // Writes the object that is shown for a tag at a place of the buffer: the place after it.
 fn put_shown<S: ReadStore>(store: &S, absent: Absent, tag: u32, out: &mut [u8], at: usize) -> usize
-    requires { at + length (bytes_of (shown absent tag (held store.now tag))) ≤ length out.old }
-    ensures after { result ≡ at + length (bytes_of (shown absent tag (held store.now tag))) }
-    ensures front { take result out.new ≡ take at out.old ++ bytes_of (shown absent tag (held store.now tag)) }
+    requires { at + length (bytes_of (shown absent tag (S.held store.now tag))) ≤ length out.old }
+    ensures after { result ≡ at + length (bytes_of (shown absent tag (S.held store.now tag))) }
+    ensures front { take result out.new ≡ take at out.old ++ bytes_of (shown absent tag (S.held store.now tag)) }
     ensures back { drop result out.new ≡ drop result out.old }
 {
     let mut room = [0u8; 260];
@@ -98,7 +98,7 @@ fn put_shown<S: ReadStore>(store: &S, absent: Absent, tag: u32, out: &mut [u8], 
 // How many bytes the objects that are shown for tags have.
 fn sizes_of<S: ReadStore>(store: &S, absent: Absent, tags: &[u32]) -> usize
     requires { length tags.now ≤ 64 }
-    ensures value { result ≡ length (bytes_of (objects_at absent tags.now (held store.now))) }
+    ensures value { result ≡ length (bytes_of (objects_at absent tags.now (S.held store.now))) }
     ensures only { OnlyAt absent tags.now }
 {
     let mut all = 0;
@@ -110,8 +110,8 @@ fn sizes_of<S: ReadStore>(store: &S, absent: Absent, tags: &[u32]) -> usize
 
 // Writes the objects that are shown for tags to the buffer's front.
 fn put_objects<S: ReadStore>(store: &S, absent: Absent, tags: &[u32], out: &mut [u8])
-    requires { length (bytes_of (objects_at absent tags.now (held store.now))) ≤ length out.old }
-    ensures { out.new ≡ at_front (bytes_of (objects_at absent tags.now (held store.now))) out.old }
+    requires { length (bytes_of (objects_at absent tags.now (S.held store.now))) ≤ length out.old }
+    ensures { out.new ≡ at_front (bytes_of (objects_at absent tags.now (S.held store.now))) out.old }
 {
     let mut at = 0;
     for tag in tags {
@@ -127,9 +127,9 @@ pub(crate) fn write_objects<S: ReadStore>(
     out: &mut [u8],
 ) -> Result<usize, ReadoutRefusal>
     requires { length tags.now ≤ 64 }
-    ensures answer { result ≡ fit_answer (bytes_of (objects_at absent tags.now (held store.now))) (length out.old) }
-    ensures after { out.new ≡ write_after result (bytes_of (objects_at absent tags.now (held store.now))) out.old }
-    ensures reads { ReadsAs result out.new (objects_at absent tags.now (held store.now)) }
+    ensures answer { result ≡ fit_answer (bytes_of (objects_at absent tags.now (S.held store.now))) (length out.old) }
+    ensures after { out.new ≡ write_after result (bytes_of (objects_at absent tags.now (S.held store.now))) out.old }
+    ensures reads { ReadsAs result out.new (objects_at absent tags.now (S.held store.now)) }
     ensures only { OnlyAt absent tags.now }
 {
     let n = sizes_of(store, absent, tags);

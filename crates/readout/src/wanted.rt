@@ -19,7 +19,7 @@ fn listed_tags<S: ReadStore>(
     tags: &mut [u32; 64],
 ) -> Result<usize, TextFault>
     requires { length list.old ≡ 64 }
-    ensures value { told_in result tags.new ≡ wanted_by (held store.now) }
+    ensures value { told_in result tags.new ≡ wanted_by (S.held store.now) }
     ensures tags { IfOk result (λ n. AllTags (take n tags.new)) }
     ensures few { IfOk result (λ n. n ≤ 64) }
 {
@@ -37,11 +37,11 @@ fn write_listed<S: ReadStore>(
     out: &mut [u8],
 ) -> Result<usize, ReadoutRefusal>
     requires { length list.old ≡ 64 }
-    ensures answer { result ≡ on_tags (wanted_by (held store.now)) (wanted_objects (held store.now)) (length out.old) }
-    ensures after { out.new ≡ write_after result (bytes_of (wanted_objects (held store.now))) out.old }
-    ensures reads { ReadsAs result out.new (wanted_objects (held store.now)) }
-    ensures only { OnOk result (OnlyWanted (held store.now)) }
-    ensures once { OnOk result (EachOnce (value_of (held store.now 0xDF_8112))) }
+    ensures answer { result ≡ on_tags (wanted_by (S.held store.now)) (wanted_objects (S.held store.now)) (length out.old) }
+    ensures after { out.new ≡ write_after result (bytes_of (wanted_objects (S.held store.now))) out.old }
+    ensures reads { ReadsAs result out.new (wanted_objects (S.held store.now)) }
+    ensures only { OnOk result (OnlyWanted (S.held store.now)) }
+    ensures once { OnOk result (EachOnce (value_of (S.held store.now 0xDF_8112))) }
 {
     let mut tags = [0u32; 64];
     match listed_tags(store, list, &mut tags) {
@@ -57,11 +57,11 @@ pub fn write_wanted<S: ReadStore>(
     list: &mut [Tag],
     out: &mut [u8],
 ) -> Result<usize, ReadoutRefusal>
-    ensures answer { result ≡ wanted_answer (length list.old) (held store.now) (length out.old) }
-    ensures after { out.new ≡ write_after result (bytes_of (wanted_objects (held store.now))) out.old }
-    ensures reads { ReadsAs result out.new (wanted_objects (held store.now)) }
-    ensures only { OnOk result (OnlyWanted (held store.now)) }
-    ensures once { OnOk result (EachOnce (value_of (held store.now 0xDF_8112))) }
+    ensures answer { result ≡ wanted_answer (length list.old) (S.held store.now) (length out.old) }
+    ensures after { out.new ≡ write_after result (bytes_of (wanted_objects (S.held store.now))) out.old }
+    ensures reads { ReadsAs result out.new (wanted_objects (S.held store.now)) }
+    ensures only { OnOk result (OnlyWanted (S.held store.now)) }
+    ensures once { OnOk result (EachOnce (value_of (S.held store.now 0xDF_8112))) }
 {
     if list.len() < 64 {
         return Err(ReadoutRefusal::Short);

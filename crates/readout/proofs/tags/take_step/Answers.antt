@@ -1,7 +1,7 @@
 use Rattle.std.proofs.Common.{length, sym, refl, ap, subst}
 use Rattle.keyed.specs.Elements.{elements, memory}
 use Rattle.readout.specs.Shown.{AllTags}
-use Rattle.readout.specs.Listing.{end, filler, fault, want, numbers}
+use Rattle.readout.specs.Listing.{filler, want, numbers}
 use Rattle.readout.proofs.Taking.{at_end_lem, at_filler, at_fault, less, went, full_step}
 use Rattle.readout.proofs.tags.take_step.Goals as goal
 
