@@ -52,8 +52,8 @@ impl<'a> Parts<'a> {
     // Puts a new object behind the others.
     pub(crate) fn append(&mut self, tag: Tag, value: &[u8])
         requires tidy { Tidy self.old }
-        requires value_value { held_by self.old tag.value ≡ None }
-        requires value_len_bound { (length value.now ≤ 255) × (self.old.count < length self.old.slots.now) × (self.old.used + length value.now ≤ length self.old.values.now) }
+        requires absent { held_by self.old tag.value ≡ None }
+        requires room { (length value.now ≤ 255) × (self.old.count < length self.old.slots.now) × (self.old.used + length value.now ≤ length self.old.values.now) }
         ensures sound { Tidy self.new }
         ensures after { held_by self.new ≡ changed (held_by self.old) tag.value (Some value.now) }
         ensures limits { (length self.new.slots.now ≡ length self.old.slots.now) × (length self.new.values.now ≡ length self.old.values.now) }
@@ -73,7 +73,7 @@ impl<'a> Parts<'a> {
     // Writes the value over a held one of the same length.
     pub(crate) fn overwrite(&mut self, tag: Tag, value: &[u8])
         requires tidy { Tidy self.old }
-        requires value_value { option_map length (held_by self.old tag.value) ≡ Some (length value.now) }
+        requires same_length { option_map length (held_by self.old tag.value) ≡ Some (length value.now) }
         ensures sound { Tidy self.new }
         ensures after { held_by self.new ≡ changed (held_by self.old) tag.value (Some value.now) }
         ensures limits { (length self.new.slots.now ≡ length self.old.slots.now) × (length self.new.values.now ≡ length self.old.values.now) }

@@ -8,8 +8,8 @@ use Rattle.stages.proofs.brought.last_value.Goals.{then-p-tag, else-p-tag}
 pub loop-p-preserved : goal.loop-p-preserved
 loop-p-preserved c =
     elim c.if-p-tag.branch [
-      | then-p-tag w ↦ value_here c.args.text.now c.args.places.now c.loop-p.p-index _ c.loop-p-test.true c.args.tag c.loop-p.value.now c.if-p-tag.value.now w.if-p-tag.true (ap (λ x. x.now) w.value_is ∙ c.value_in-here.ensures) ∙ c.loop-p.invariant
-      | else-p-tag w ↦ value_other c.args.text.now c.args.places.now c.loop-p.p-index _ c.loop-p-test.true c.args.tag c.loop-p.value.now c.if-p-tag.value.now w.if-p-tag.false (ap (λ x. x.now) w.value_is) ∙ c.loop-p.invariant
+      | then-p-tag w ↦ value_here c.args.text.now c.args.places.now c.loop-p.p-index _ c.loop-p-test.true c.args.tag c.loop-p.value.now c.if-p-tag.value.now w.if-p-tag.true (ap (λ x. x.now) w.value-is ∙ c.value_in-here.ensures) ∙ c.loop-p.invariant
+      | else-p-tag w ↦ value_other c.args.text.now c.args.places.now c.loop-p.p-index _ c.loop-p-test.true c.args.tag c.loop-p.value.now c.if-p-tag.value.now w.if-p-tag.false (ap (λ x. x.now) w.value-is) ∙ c.loop-p.invariant
     ]
 
 pub returns : goal.returns

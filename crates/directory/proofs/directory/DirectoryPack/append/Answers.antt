@@ -8,4 +8,8 @@ append-requires c =
     let o = c.args.self.now.ok in
     let a = ordered_count r.count r.used r.slots.now r.values.now o in
     let b = ordered_total r.count r.used r.slots.now r.values.now o in
-    (o, c.requires.absent, (c.requires.room.0, omega (arith, c.requires.room.1), omega (arith, c.requires.room.2)))
+    record {
+      tidy = o;
+      absent = c.requires.absent;
+      room = (c.requires.room.0, omega (arith, c.requires.room.1), omega (arith, c.requires.room.2));
+    }

@@ -19,7 +19,7 @@ returns c =
     let t = c.args.tag.value in
     let ss' : List Slot = set ss n (slot c.number.result z) in
     let vs' : List ℕ = put_mid u (u + z - u) vs c.copy_from_slice.new.self in
-    let room = c.requires.2 in
+    let room = c.requires.room in
     let same : c.copy_from_slice.new.self ≡ v = c.copy_from_slice.ensures.after in
     let l : length c.copy_from_slice.new.self ≡ z = ap length same in
     let ls : length ss' ≡ length ss = length-set ss n (slot c.number.result z) in
@@ -28,6 +28,6 @@ returns c =
     take_more_set ss n (slot c.number.result z) room.1 ∙ ap (λ x. take n ss ++ slot x z ∷ []) c.number.ensures in
     let values : take (u + z) vs' ≡ take u vs ++ v =
     take-put_mid u (u + z - u) vs c.copy_from_slice.new.self (u + z) (omega arith) (omega (arith, room.2)) ∙ ap (λ xs. take u vs ++ xs) same in
-    let h = ordered_push n u ss ss' vs vs' t v (n + 1) (u + z) c.requires.0 c.requires.1 c.args.tag.ok room.0 slots values
+    let h = ordered_push n u ss ss' vs vs' t v (n + 1) (u + z) c.requires.tidy c.requires.absent c.args.tag.ok room.0 slots values
     (omega (arith, room.1)) (omega (arith, room.2)) in
     record { sound = h.sound; after = h.map; limits = (ls, lv) }

@@ -18,15 +18,15 @@ returns-in-Some c =
     let w = c.args.value.now in
     let z : ℕ = length c.args.value.now in
     let same : length (take p.size (drop at vs)) ≡ z =
-    held_length (filed_map n u ss vs t) z c.requires.1 (take p.size (drop at vs)) k.here in
+    held_length (filed_map n u ss vs t) z c.requires.same_length (take p.size (drop at vs)) k.here in
     let new : List ℕ = put_mid at (at + z - at) vs c.copy_from_slice.new.self in
     let long : length new ≡ length vs =
     length_put_mid at (at + z - at) vs c.copy_from_slice.new.self (omega (arith, k.inside, k.long)) (omega (arith, ap length c.copy_from_slice.ensures.after)) in
-    let h = ordered_over n u ss vs new c.copy_from_slice.new.self t p.index at p.size (at + z - at) w c.requires.0 k.slot
+    let h = ordered_over n u ss vs new c.copy_from_slice.new.self t p.index at p.size (at + z - at) w c.requires.tidy k.slot
     (omega (arith, k.long)) (omega (arith, k.long)) c.copy_from_slice.ensures.after refl long in
     record { sound = h.sound; after = h.map; limits = (refl, long) }
 
 pub returns-in_default : goal.returns-in_default
 returns-in_default c =
     let r = c.args.self.now in
-    absurd (never_absent (filed_map r.count r.used r.slots.now r.values.now c.args.tag.value) (length c.args.value.now) c.requires.1 c.in_default.ensures)
+    absurd (never_absent (filed_map r.count r.used r.slots.now r.values.now c.args.tag.value) (length c.args.value.now) c.requires.same_length c.in_default.ensures)
