@@ -1,7 +1,7 @@
 -- The judgement of a text that is read.
-use Rattle.std.proofs.Common.{◌≡◌, ℕ, List, [], ◌∷◌, ◌++◌, Some, None, Option, Result, sym, subst}
+use Rattle.std.proofs.Common.{ℕ, List, [], ◌∷◌, ◌++◌, Some, None, Option, Result, sym, subst}
 use Rattle.tlv.specs.declared.place.Place.{Place}
-use Rattle.tlv.specs.Series.{Reading, found, meaning}
+use Rattle.tlv.specs.Series.{Reading}
 use Rattle.store.specs.Map.{empty}
 use Rattle.judge.specs.declared.fault.ObjectFault.{ObjectFault}
 use Rattle.judge.specs.declared.fault.ObjectFaultKind.{ObjectFaultKind}

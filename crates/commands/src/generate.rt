@@ -24,8 +24,8 @@ fn generate_with<S: ReadStore>(
     command: &mut [u8],
 ) -> Result<usize, CommandFault>
     requires { 261 ≤ length command.old }
-    ensures value { result ≡ told (on_data fault (generate_ac kind) (dol_data (held store.now) 255 cdol1.now)) }
-    ensures after { command.new ≡ written (on_data fault (generate_ac kind) (dol_data (held store.now) 255 cdol1.now)) command.old }
+    ensures value { result ≡ told (on_data fault (generate_ac kind) (dol_data (S.held store.now) 255 cdol1.now)) }
+    ensures after { command.new ≡ written (on_data fault (generate_ac kind) (dol_data (S.held store.now) 255 cdol1.now)) command.old }
 {
     let Ok(size) = dol_size(cdol1, 255) else {
         return Err(fault);
@@ -52,8 +52,8 @@ fn generate_for<S: ReadStore>(
     command: &mut [u8],
 ) -> Result<usize, CommandFault>
     requires { 261 ≤ length command.old }
-    ensures value { result ≡ told (generate_command kind (held store.now)) }
-    ensures after { command.new ≡ written (generate_command kind (held store.now)) command.old }
+    ensures value { result ≡ told (generate_command kind (S.held store.now)) }
+    ensures after { command.new ≡ written (generate_command kind (S.held store.now)) command.old }
 {
     let mut buffer = [0u8; 255];
     let cdol1 = value_in(store, CDOL1, &mut buffer);
@@ -67,7 +67,7 @@ fn generate_for<S: ReadStore>(
 
 // No object moves a byte of the command but CDOL1, Default CDOL1 and those that the serving one names.
 fn only_named_objects_move_it<S: ReadStore>(store: &S, kind: Cryptogram)
-    ensures { GenerateNamed kind (held store.now) }
+    ensures { GenerateNamed kind (S.held store.now) }
 {}
 
 // Writes the command for a kind of cryptogram and what is held; how many bytes it has.
@@ -76,9 +76,9 @@ pub fn generate_ac<S: ReadStore>(
     kind: Cryptogram,
     command: &mut [u8],
 ) -> Result<usize, CommandFault>
-    ensures value { result ≡ told (roomy (length command.old) (generate_command kind (held store.now))) }
-    ensures after { command.new ≡ written (roomy (length command.old) (generate_command kind (held store.now))) command.old }
-    ensures law { GenerateNamed kind (held store.now) }
+    ensures value { result ≡ told (roomy (length command.old) (generate_command kind (S.held store.now))) }
+    ensures after { command.new ≡ written (roomy (length command.old) (generate_command kind (S.held store.now))) command.old }
+    ensures law { GenerateNamed kind (S.held store.now) }
 {
     only_named_objects_move_it(store, kind);
     if command.len() < 261 {

@@ -19,8 +19,8 @@ fn options_with<S: ReadStore>(
     command: &mut [u8],
 ) -> Result<usize, CommandFault>
     requires { 261 ≤ length command.old }
-    ensures value { result ≡ told (on_data CommandFault.List get_options (dol_data (held store.now) 252 pdol.now)) }
-    ensures after { command.new ≡ written (on_data CommandFault.List get_options (dol_data (held store.now) 252 pdol.now)) command.old }
+    ensures value { result ≡ told (on_data CommandFault.List get_options (dol_data (S.held store.now) 252 pdol.now)) }
+    ensures after { command.new ≡ written (on_data CommandFault.List get_options (dol_data (S.held store.now) 252 pdol.now)) command.old }
 {
     let Ok(size) = dol_size(pdol, 252) else {
         return Err(CommandFault::List);
@@ -40,8 +40,8 @@ fn options_with<S: ReadStore>(
 // Writes the command for what is held.
 fn options_for<S: ReadStore>(store: &S, command: &mut [u8]) -> Result<usize, CommandFault>
     requires { 261 ≤ length command.old }
-    ensures value { result ≡ told (options_command (held store.now)) }
-    ensures after { command.new ≡ written (options_command (held store.now)) command.old }
+    ensures value { result ≡ told (options_command (S.held store.now)) }
+    ensures after { command.new ≡ written (options_command (S.held store.now)) command.old }
 {
     let mut buffer = [0u8; 255];
     let pdol = value_in(store, PDOL, &mut buffer);
@@ -50,7 +50,7 @@ fn options_for<S: ReadStore>(store: &S, command: &mut [u8]) -> Result<usize, Com
 
 // No object moves a byte of the command but the PDOL and those that it names.
 fn only_named_objects_move_it<S: ReadStore>(store: &S)
-    ensures { OptionsNamed (held store.now) }
+    ensures { OptionsNamed (S.held store.now) }
 {}
 
 // Writes the command for what is held; how many bytes it has.
@@ -58,9 +58,9 @@ pub fn get_processing_options<S: ReadStore>(
     store: &S,
     command: &mut [u8],
 ) -> Result<usize, CommandFault>
-    ensures value { result ≡ told (roomy (length command.old) (options_command (held store.now))) }
-    ensures after { command.new ≡ written (roomy (length command.old) (options_command (held store.now))) command.old }
-    ensures law { OptionsNamed (held store.now) }
+    ensures value { result ≡ told (roomy (length command.old) (options_command (S.held store.now))) }
+    ensures after { command.new ≡ written (roomy (length command.old) (options_command (S.held store.now))) command.old }
+    ensures law { OptionsNamed (S.held store.now) }
 {
     only_named_objects_move_it(store);
     if command.len() < 261 {

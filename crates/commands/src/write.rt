@@ -10,7 +10,7 @@ use store::reading::{Copied, ReadStore};
 
 // A tag's value, in the front of `buffer`: empty where the tag is not held.
 pub(crate) fn value_in<'a, S: ReadStore>(store: &S, tag: u32, buffer: &'a mut [u8; 255]) -> &'a [u8]
-    ensures { result.now ≡ bytes (held store.now tag) }
+    ensures { result.now ≡ bytes (S.held store.now tag) }
 {
     let Some(tag) = Tag::new(tag) else {
         return &buffer[0..0];
@@ -32,7 +32,7 @@ pub(crate) fn write_around<S: ReadStore>(
     requires sized { size_of size (entries dol.now) ≡ Sized size }
     requires room { length header.now + size < length command.old }
     ensures value { result ≡ length header.now + size + 1 }
-    ensures after { command.new ≡ framed header.now (dol_data (held store.now) size dol.now) command.old }
+    ensures after { command.new ≡ framed header.now (dol_data (S.held store.now) size dol.now) command.old }
 {
     let start = header.len();
     let end = start + size;

@@ -11,7 +11,7 @@ use store::reading::ReadStore;
 
 // The bytes for one entry of a list: zeros where the tag is unknown, not held or empty.
 fn fill_entry<S: ReadStore>(store: &S, tag: u32, out: &mut [u8])
-    ensures { out.new ≡ data_for (held store.now) tag (length out.old) }
+    ensures { out.new ≡ data_for (S.held store.now) tag (length out.old) }
 {
     let Some(known) = Known::look_up(tag) else {
         return pad_with(out, 0);
@@ -30,7 +30,7 @@ fn fill_entry<S: ReadStore>(store: &S, tag: u32, out: &mut [u8])
 // Writes the data to the front of `out`, entry by entry.
 fn fill_entries<S: ReadStore>(store: &S, dol: &[u8], out: &mut [u8])
     requires { Room 0 (entries dol.now) (length out.old) }
-    ensures { out.new ≡ filled (dol_data (held store.now) (length out.old) dol.now) out.old }
+    ensures { out.new ≡ filled (dol_data (S.held store.now) (length out.old) dol.now) out.old }
 {
     let mut rest = dol;
     let mut at = 0;
@@ -46,7 +46,7 @@ fn fill_entries<S: ReadStore>(store: &S, dol: &[u8], out: &mut [u8])
 // or asks for more than `out` has, leaves `out` as it was.
 pub fn fill<S: ReadStore>(store: &S, dol: &[u8], out: &mut [u8]) -> Result<usize, DolFault>
     ensures value { result ≡ size_of (length out.old) (entries dol.now) }
-    ensures after { out.new ≡ filled (dol_data (held store.now) (length out.old) dol.now) out.old }
+    ensures after { out.new ≡ filled (dol_data (S.held store.now) (length out.old) dol.now) out.old }
     ensures law { Lawful dol.now }
 {
     match dol_size(dol, out.len()) {

@@ -1,7 +1,7 @@
 -- What is shown reads back.
-use Rattle.std.proofs.Common.{◌≡◌, ℕ, zero, suc, ◌+◌, ◌-◌, ◌*◌, ◌/◌, ◌%◌, ◌<◌, ◌≤◌, true, false, cond, ◌&&◌, ◌||◌, eqb, ltb, List, [], ◌∷◌, ◌++◌, get_or, Some, None, Option, sym, refl, ap, ◌∙◌, ⊎_elim, append_assoc, append-nil, arith}
+use Rattle.std.proofs.Common.{◌≡◌, ℕ, suc, ◌+◌, ◌-◌, ◌*◌, ◌/◌, ◌%◌, ◌<◌, ◌≤◌, false, List, [], ◌∷◌, ◌++◌, get_or, Some, None, sym, ap, ◌∙◌, ⊎_elim, append_assoc, append-nil, arith}
 use Rattle.std.proofs.lemmas.Bool.{lt-ltb, le-ltb, ne_eqb, cases_lt}
-use Rattle.hexadecimal.specs.Digits.{is_blank, digit_of, with_digit, bytes_from, bytes_of, digit, shown}
+use Rattle.hexadecimal.specs.Digits.{is_blank, digit_of, bytes_from, bytes_of, digit, shown}
 
 record Digit (d c : ℕ) : Type 0 where
   no_blank : is_blank c ≡ false

@@ -8,7 +8,7 @@ use Rattle.tlv.specs.declared.text.ReadRefusal.TheVariants as read
 use Rattle.tlv.specs.Series.{wrong, found, meaning}
 use Rattle.tlv.specs.Told as told
 use Rattle.store.specs.Map.{Map}
-use Rattle.judge.specs.declared.fault.JudgeRefusal.TheVariants.{ListShort, Fault}
+use Rattle.judge.specs.declared.fault.JudgeRefusal.TheVariants.{ListShort}
 use Rattle.judge.specs.declared.kind.TextKind.{TextKind}
 use Rattle.judge.specs.Faults.{refused_as}
 use Rattle.judge.specs.Judge.{judged_by, judged, judgement, refused_for}

@@ -1,5 +1,5 @@
 -- What holds of a text that is taken, and that taking keeps the room. Assumes nothing.
-use Rattle.std.proofs.Common.{◌≡◌, ℕ, ◌≤◌, Bool, true, false, cond, ltb, List, [], Ok, Err, Result, sym, refl, ap, ◌∙◌, subst, arith}
+use Rattle.std.proofs.Common.{◌≡◌, ℕ, ◌≤◌, Bool, true, false, cond, ltb, List, Ok, Err, Result, refl, arith}
 use Rattle.std.proofs.lemmas.Bool.{ltb-false}
 use Rattle.tlv.specs.Series.{Reading, wrong, found, most_objects, meaning}
 use Rattle.store.specs.Map.{Map}

@@ -1,7 +1,7 @@
 -- What the search for an equal key, and adding an element, give of `holds` and `Distinct`.
-use Rattle.std.proofs.Common.{◌≡◌, ℕ, ◌+◌, ◌<◌, ◌≤◌, Bool, true, false, List, [], ◌∷◌, ◌++◌, length, get_or, drop, sym, refl, ap, ◌∙◌}
+use Rattle.std.proofs.Common.{◌≡◌, ℕ, ◌+◌, ◌<◌, ◌≤◌, Bool, true, false, List, length, get_or, drop, sym, ap, ◌∙◌}
 use Rattle.std.proofs.lemmas.List.{at_drop_more, at_drop_all}
-use Rattle.keyed.specs.Keys.{or, holds, Distinct}
+use Rattle.keyed.specs.Keys.{or, holds}
 
 module _ {X : Type 0} (same : X → X → Bool) where
   -- one turn of the search

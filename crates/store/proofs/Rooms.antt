@@ -1,5 +1,5 @@
 -- What putting does to the counts of a map.
-use Rattle.std.proofs.Common.{◌≡◌, ℕ, ◌+◌, ◌-◌, ◌<◌, ◌≤◌, false, cond, not, ◌||◌, ltb, List, length, IfSome, Some, None, Ok, Err, Option, sym, ap, ◌∙◌, subst, arith}
+use Rattle.std.proofs.Common.{◌≡◌, ℕ, ◌+◌, ◌<◌, ◌≤◌, false, cond, not, ◌||◌, ltb, List, length, IfSome, Some, None, Ok, Err, Option, sym, ap, ◌∙◌, subst, arith}
 use Rattle.std.specs.Option.{option_map}
 use Rattle.std.proofs.lemmas.Bool.{or_parts, ltb-false, cond-false, le-ltb}
 use Rattle.store.specs.Map.{Map, changed, one, size, count, total}

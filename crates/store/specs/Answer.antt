@@ -1,5 +1,5 @@
 -- What the calls of a store answer, and what they leave.
-use Rattle.std.specs.Prelude.{ℕ, ◌+◌, ◌-◌, ◌<◌, ◌≤◌, Bool, true, false, cond, ◌||◌, List, [], ◌∷◌, ◌++◌, length, drop, is_ok, Some, None, Ok, Err, Option, Result, nat_lt}
+use Rattle.std.specs.Prelude.{ℕ, ◌+◌, ◌-◌, Bool, cond, ◌||◌, List, ◌++◌, length, drop, Some, None, Ok, Err, Option, Result, nat_lt}
 use Rattle.store.specs.declared.writing.Refused.{Refused}
 use Rattle.store.specs.declared.writing.Refused.TheVariants.{TooLong, NoRoom}
 use Rattle.store.specs.declared.reading.Copied.{Copied}

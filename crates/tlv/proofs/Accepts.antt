@@ -1,9 +1,9 @@
 -- Every text is read.
-use Rattle.std.proofs.Common.{◌≡◌, ℕ, suc, ◌+◌, ◌-◌, ◌<◌, ◌≤◌, Bool, true, false, cond, eqb, ltb, List, [], ◌∷◌, ◌++◌, length, get_or, take, drop, sym, refl, ap, ◌∙◌, subst, append_assoc, append-nil, arith, length-append, le-ltb, lt-ltb, ne_eqb}
+use Rattle.std.proofs.Common.{◌≡◌, ℕ, suc, ◌+◌, ◌-◌, ◌≤◌, Bool, List, [], ◌∷◌, ◌++◌, length, get_or, sym, refl, ap, ◌∙◌, append_assoc, append-nil, arith, length-append, le-ltb, lt-ltb, ne_eqb}
 use Rattle.std.proofs.lemmas.List.{take_at, drop_at}
 use Rattle.tlv.specs.declared.place.Place.{Place}
-use Rattle.tlv.specs.Objects.{tag_at, length_at, tag, len, skip, marks_constructed, Seen, Next, seen, object, tagged, sized, object_at, next_at}
-use Rattle.tlv.specs.Series.{Reading, found, place, deepest, most_objects, and_then, read_object, read_next, series}
+use Rattle.tlv.specs.Objects.{length_at, tag, len, marks_constructed, seen, object, tagged, sized, next_at}
+use Rattle.tlv.specs.Series.{found, place, deepest, most_objects, read_next, series}
 use Rattle.tlv.specs.Grammar.{TagBytes, one, two, three, LengthBytes, short, long, Object, Item, place_of, places_of, Series, nothing, filler, primitive, constructed}
 use Rattle.tlv.proofs.Steps.{series_rule}
 

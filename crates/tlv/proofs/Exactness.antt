@@ -1,9 +1,9 @@
 -- Every text has one reading, which is the one that its definition gives.
-use Rattle.std.proofs.Common.{◌≡◌, ℕ, ◌+◌, ◌≤◌, Bool, List, [], ◌∷◌, ◌++◌, length, take, drop, sym, refl, ap, ◌∙◌, subst, append_assoc, append-nil, zero-add, arith, length-append}
+use Rattle.std.proofs.Common.{◌≡◌, ℕ, ◌+◌, Bool, List, [], ◌∷◌, ◌++◌, length, take, drop, sym, refl, ap, ◌∙◌, append_assoc, append-nil, zero-add, arith, length-append}
 use Rattle.std.specs.List.{AllByRecursion}
 use Rattle.std.proofs.lemmas.List.{take_at, drop_at}
 use Rattle.tlv.specs.declared.place.Place.{Place}
-use Rattle.tlv.specs.Series.{Reading, found, series, meaning}
+use Rattle.tlv.specs.Series.{found, meaning}
 use Rattle.tlv.specs.Values.{value_at}
 use Rattle.tlv.specs.Grammar.{Object, Item, item, place_of, places_of, Series, nothing, filler, primitive, constructed, Text}
 use Rattle.tlv.specs.Laws.{Exact}

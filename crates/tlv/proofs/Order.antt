@@ -1,9 +1,9 @@
 -- Objects are found in the order of their places.
-use Rattle.std.proofs.Common.{◌≡◌, ℕ, ◌+◌, ◌-◌, ◌<◌, ◌≤◌, Bool, true, false, cond, eqb, List, [], ◌∷◌, length, sym, refl, ap, ◌∙◌, subst, arith, ne_eqb}
+use Rattle.std.proofs.Common.{◌≡◌, ℕ, ◌-◌, ◌≤◌, false, eqb, List, [], ◌∷◌, length, sym, refl, subst, arith, ne_eqb}
 use Rattle.tlv.specs.declared.place.Place.{Place}
 use Rattle.tlv.specs.declared.token.Token.{Token}
 use Rattle.tlv.specs.declared.token.Token.TheVariants.{End, Primitive, Constructed}
-use Rattle.tlv.specs.Objects.{seen, next_at}
+use Rattle.tlv.specs.Objects.{seen}
 use Rattle.tlv.specs.Told.{meant}
 use Rattle.tlv.proofs.Steps.{Shorter, shorter, Turn}
 use Rattle.keyed.specs.Keys.{by, holds}

@@ -1,11 +1,11 @@
 -- Every faulty text is refused, with its first fault.
-use Rattle.std.proofs.Common.{◌≡◌, ℕ, suc, ◌+◌, ◌-◌, ◌<◌, ◌≤◌, Bool, true, false, cond, eqb, ltb, List, [], ◌∷◌, ◌++◌, length, get_or, sym, refl, ap, ◌∙◌, arith, length-append, le-ltb, lt-ltb, ne_eqb}
+use Rattle.std.proofs.Common.{◌≡◌, ℕ, suc, ◌+◌, ◌-◌, ◌<◌, Bool, true, false, List, [], ◌∷◌, ◌++◌, length, get_or, sym, refl, ap, ◌∙◌, arith, length-append, le-ltb, lt-ltb, ne_eqb}
 use Rattle.tlv.specs.declared.fault.FaultKind.{FaultKind}
-use Rattle.tlv.specs.declared.fault.FaultKind.TheVariants.{TooDeep, TooMany}
+use Rattle.tlv.specs.declared.fault.FaultKind.TheVariants.{TooDeep}
 use Rattle.tlv.specs.declared.place.Place.{Place}
-use Rattle.tlv.specs.Objects.{LengthRead, bad, length_at, tag_at, object, sized, tagged, fault, seen, next_at}
-use Rattle.tlv.specs.Series.{Reading, wrong, found, place, deepest, most_objects, read_next, series}
-use Rattle.tlv.specs.Grammar.{TagBytes, one, two, three, LengthBytes, Object, Item, places_of, Series}
+use Rattle.tlv.specs.Objects.{bad, length_at, object, sized, fault, seen, next_at}
+use Rattle.tlv.specs.Series.{wrong, place, deepest, most_objects, read_next, series}
+use Rattle.tlv.specs.Grammar.{TagBytes, one, two, three, places_of}
 use Rattle.tlv.specs.Faults.{NoTag, one_byte, two_bytes, too_long, NoLength, none_left, long_cut, other_form, Broken, no_tag, no_length, past_end, Faulty, here, deep, many, filler, after_primitive, inside, after_constructed}
 use Rattle.tlv.proofs.Steps.{series_rule, at_fault}
 use Rattle.tlv.proofs.Accepts.{tag_reads, length_reads, object_reads, object_ends, reads, length_places}

@@ -1,12 +1,11 @@
 -- Every text's meaning is sound.
-use Rattle.std.proofs.Common.{◌≡◌, ℕ, zero, suc, ◌+◌, ◌<◌, ◌≤◌, Bool, true, false, cond, ltb, List, [], ◌∷◌, ◌++◌, length, refl, arith, length-append, ltb-true}
-use Rattle.std.specs.List.{AllByRecursion}
+use Rattle.std.proofs.Common.{ℕ, zero, suc, ◌+◌, ◌≤◌, ltb, List, [], length, arith, length-append, ltb-true}
 use Rattle.std.proofs.slice.Lists.{all_by_recursion_push}
 use Rattle.tlv.specs.declared.place.Place.{Place}
-use Rattle.tlv.specs.Objects.{Seen, end, primitive, constructed, Next, fault, seen, next_at}
-use Rattle.tlv.specs.Series.{Reading, wrong, found, deepest, most_objects, place, Reader, and_then, read_object, read_next, series_by, series, meaning}
+use Rattle.tlv.specs.Objects.{end, primitive, constructed, Next, fault, seen, next_at}
+use Rattle.tlv.specs.Series.{Reading, wrong, found, deepest, most_objects, Reader, and_then, read_next, series_by, series, meaning}
 use Rattle.tlv.specs.Laws.{Inside, Sound}
-use Rattle.tlv.proofs.Steps.{Fits, Shorter, shorter, by_cond}
+use Rattle.tlv.proofs.Steps.{Shorter, shorter, by_cond}
 
 -- a reader that keeps what was found sound, on a series inside a text of n bytes
 abbrev Keeps : ℕ → Reader → Type 0

@@ -1,5 +1,5 @@
 -- What a text of BER-TLV objects means.
-use Rattle.std.specs.Prelude.{ℕ, ◌+◌, ◌-◌, ◌*◌, Bool, true, false, cond, List, [], ◌∷◌, ◌++◌, length, take, drop, ◌==◌, bit_and, nat_lt}
+use Rattle.std.specs.Prelude.{ℕ, ◌+◌, ◌-◌, ◌*◌, Bool, true, false, cond, List, [], ◌∷◌, length, take, drop, ◌==◌, bit_and, nat_lt}
 use Rattle.tlv.specs.declared.fault.FaultKind.{FaultKind}
 use Rattle.tlv.specs.declared.fault.FaultKind.TheVariants.{TagCut, TagLong, BadLength, PastEnd, TooDeep, TooMany}
 

@@ -1,5 +1,5 @@
 -- The bytes of an object as it is written: its tag, the shortest length, its value.
-use Rattle.std.specs.Prelude.{◌≡◌, ℕ, ◌-◌, ◌/◌, ◌%◌, Bool, true, false, cond, not, ◌&&◌, List, [], ◌∷◌, ◌++◌, length, drop, Ok, Err, Result, ◌==◌, nat_lt, slice_index}
+use Rattle.std.specs.Prelude.{◌≡◌, ℕ, ◌-◌, ◌/◌, ◌%◌, Bool, cond, not, ◌&&◌, List, [], ◌∷◌, ◌++◌, length, drop, Ok, Err, Result, ◌==◌, nat_lt, slice_index}
 use Rattle.tlv.specs.declared.write.WriteRefusal.{WriteRefusal}
 use Rattle.tlv.specs.declared.write.WriteRefusal.TheVariants.{NoTag, TooLong, Short}
 use Rattle.tlv.specs.Objects.{marks_more, marks_constructed, bit8, object, seen, next_at}

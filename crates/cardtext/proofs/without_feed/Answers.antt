@@ -3,8 +3,8 @@ use Rattle.std.proofs.lemmas.List.{nil_from_length}
 use Rattle.cardtext.specs.Lines.{without_feed}
 use Rattle.cardtext.proofs.without_feed.Goals as goal
 
-pub returns-in_empty : goal.returns-in_empty
-returns-in_empty c =
+pub returns-in-empty : goal.returns-in-empty
+returns-in-empty c =
     let none : length c.args.line.now ≡ 0 = omega (arith, ltb-true) in
     let nil = nil_from_length c.args.line.now none in
     nil ∙ ap without_feed (sym nil)

@@ -6,8 +6,8 @@ use Rattle.cardtext.proofs.Joining.{always, read_well, same_reading}
 use Rattle.cardtext.proofs.Telling.{each_told}
 use Rattle.cardtext.proofs.report.push_reading.Goals as goal
 
-pub returns-in_ok-push_objects : goal.returns-in_ok-push_objects
-returns-in_ok-push_objects c =
+pub returns-in_ok-push_objects-in-Ok : goal.returns-in_ok-push_objects-in-Ok
+returns-in_ok-push_objects-in-Ok c =
     let n = c.in-Ok.n in
     let places = c.read_text.new.list in
     let text = c.args.text.now in
@@ -18,7 +18,7 @@ returns-in_ok-push_objects c =
           IfOk-weaker c.push_takings.result _ _
           (λ x e.
           read_well text (vec_items c.args.out.now) (vec_items c.push_objects.new.out) (take (n - 0) places) (length places)
-          meant c.read_text.auto.list c.in_ok-push_objects.ensures e)
+          meant c.read_text.auto.list c.in_ok-push_objects-in-Ok.ensures e)
           c.push_takings.ensures;
       each = always c.push_takings.result (each_told text);
     }

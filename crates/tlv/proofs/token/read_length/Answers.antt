@@ -1,4 +1,4 @@
-use Rattle.std.proofs.Common.{arith, rules, tests, ltb-false}
+use Rattle.std.proofs.Common.{arith, rules, ltb-false}
 use Rattle.tlv.proofs.Leaves.{length_81, length_short}
 use Rattle.tlv.proofs.token.read_length.Goals as goal
 

@@ -1,4 +1,4 @@
-use Rattle.std.proofs.Common.{arith, rules, ltb-false}
+use Rattle.std.proofs.Common.{arith, ltb-false}
 use Rattle.tlv.proofs.Leaves.{tag_one, tag_two, tag_three}
 use Rattle.tlv.proofs.token.read_tag.Goals as goal
 

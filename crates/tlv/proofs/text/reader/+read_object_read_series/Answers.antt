@@ -1,7 +1,6 @@
-use Rattle.std.proofs.Common.{◌≡◌, ℕ, ◌+◌, ◌-◌, ◌<◌, Bool, true, false, cond, length, sym, refl, ap, ◌∙◌, subst, arith, rules}
+use Rattle.std.proofs.Common.{◌≡◌, ℕ, ◌+◌, ◌<◌, Bool, true, false, cond, length, sym, ap, ◌∙◌, subst, arith, rules}
 use Rattle.std.proofs.lemmas.Result.{err_from_is_err_and, IfOk-from_err}
 use Rattle.std.proofs.slice.Lists.{all_by_recursion_push}
-use Rattle.keyed.specs.declared.list.Addition.{Addition}
 use Rattle.keyed.specs.declared.list.Addition.TheVariants.{Added, AlreadyThere, Full}
 use Rattle.keyed.specs.Elements.{elements}
 use Rattle.tlv.specs.Series.{place}

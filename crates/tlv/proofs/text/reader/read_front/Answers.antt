@@ -1,4 +1,4 @@
-use Rattle.std.proofs.Common.{◌≡◌, ℕ, ◌≤◌, List, ◌++◌, length, take, IfOk, Ok, Err, Result, refl, ap, ◌∙◌, arith, rules}
+use Rattle.std.proofs.Common.{◌≡◌, ℕ, ◌≤◌, List, ◌++◌, length, IfOk, Ok, Err, Result, refl, ap, ◌∙◌, arith, rules}
 use Rattle.std.proofs.lemmas.List.{take-append-le}
 use Rattle.tlv.specs.declared.place.Place.{Place}
 use Rattle.tlv.specs.declared.fault.TextFault.{TextFault}
