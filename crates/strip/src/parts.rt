@@ -59,8 +59,8 @@ impl<'a> Parts<'a> {
     // Puts a new object behind the others.
     pub(crate) fn append(&mut self, tag: Tag, value: &[u8])
         requires whole { Whole self.old }
-        requires value_value { held_by self.old tag.value ≡ None }
-        requires value_len_bound { (length value.now ≤ 255) × (self.old.count < self.old.objects) × (self.old.used + length value.now ≤ 5 * self.old.count + self.old.bytes) }
+        requires absent { held_by self.old tag.value ≡ None }
+        requires room { (length value.now ≤ 255) × (self.old.count < self.old.objects) × (self.old.used + length value.now ≤ 5 * self.old.count + self.old.bytes) }
         ensures sound { Whole self.new }
         ensures after { held_by self.new ≡ changed (held_by self.old) tag.value (Some value.now) }
         ensures limits { (self.new.objects ≡ self.old.objects) × (self.new.bytes ≡ self.old.bytes) }
@@ -75,7 +75,7 @@ impl<'a> Parts<'a> {
     // Writes the value over a held one of the same length.
     pub(crate) fn overwrite(&mut self, tag: Tag, value: &[u8])
         requires whole { Whole self.old }
-        requires value_value { option_map length (held_by self.old tag.value) ≡ Some (length value.now) }
+        requires same_length { option_map length (held_by self.old tag.value) ≡ Some (length value.now) }
         ensures sound { Whole self.new }
         ensures after { held_by self.new ≡ changed (held_by self.old) tag.value (Some value.now) }
         ensures limits { (self.new.objects ≡ self.old.objects) × (self.new.bytes ≡ self.old.bytes) }

@@ -19,13 +19,13 @@ returns-in-Some c =
     let w = c.args.value.now in
     let z : ℕ = length c.args.value.now in
     let k : Spot bs (entries n bs) t at = subst (λ (xs : List ℕ). Spot xs (entries n xs) t at) c.text.ensures c.in-Some.ensures in
-    let same : length k.v ≡ z = held_length (contents n u a t) z c.requires.1 k.v k.here in
+    let same : length k.v ≡ z = held_length (contents n u a t) z c.requires.same_length k.v k.here in
     let new : List ℕ = put_mid (at + 5) (at + 5 + z - (at + 5)) a c.copy_from_slice.new.self in
-    let lu = length-take-le u a c.requires.0.3 in
+    let lu = length-take-le u a c.requires.whole.3 in
     let lw : length c.copy_from_slice.new.self ≡ z = ap length c.copy_from_slice.ensures.after in
-    let long : length new ≡ length a = length_put_mid (at + 5) (at + 5 + z - (at + 5)) a c.copy_from_slice.new.self (omega (arith, k.room, c.requires.0.3)) (omega arith) in
+    let long : length new ≡ length a = length_put_mid (at + 5) (at + 5 + z - (at + 5)) a c.copy_from_slice.new.self (omega (arith, k.room, c.requires.whole.3)) (omega arith) in
     let h = sound_over c.args.self.now.objects c.args.self.now.bytes n u a new c.copy_from_slice.new.self t at (at + 5 + z - (at + 5)) w
-    c.requires.0 k same (omega arith) c.copy_from_slice.ensures.after refl long in
+    c.requires.whole k same (omega arith) c.copy_from_slice.ensures.after refl long in
     record { sound = h.sound; after = h.map; limits = (refl, refl) }
 
 pub returns-in_default : goal.returns-in_default
@@ -33,5 +33,5 @@ returns-in_default c =
     let n = c.args.self.now.count in
     let bs : List ℕ = take c.args.self.now.used c.args.self.now.area.now in
     let t = c.args.tag.value in
-    absurd (never_absent (lookup (entries n bs) t) (length c.args.value.now) c.requires.1
+    absurd (never_absent (lookup (entries n bs) t) (length c.args.value.now) c.requires.same_length
     (ap (λ xs. lookup (entries n xs) t) (sym c.text.ensures) ∙ c.in_default.ensures))

@@ -12,7 +12,7 @@ returns-in-Some c =
     let at = c.in-Some.at in
     let k : Spot bs (entries n bs) t at = subst (λ (xs : List ℕ). Spot xs (entries n xs) t at) c.text.ensures c.in-Some.ensures in
     let size : c.length_at-size.result ≡ length k.v =
-    c.length_at-size.ensures ∙ ap (λ xs. front_length (drop at xs)) c.text_in-Some.ensures ∙ k.len in
+    c.length_at-size.ensures ∙ ap (λ xs. front_length (drop at xs)) c.text-in-Some.ensures ∙ k.len in
     let h = sound_cut c.args.self.now.objects c.args.self.now.bytes c.args.self.now.count c.args.self.now.used c.args.self.now.area.now
     c.copy_within.new.self t at (5 + c.length_at-size.result) (n - 1) (c.args.self.now.used - (5 + c.length_at-size.result))
     (c.args.self.now.used - (at + (5 + c.length_at-size.result)))

@@ -8,4 +8,8 @@ append-requires c =
     let o = c.args.self.now.ok in
     let a = sound_count r.objects r.bytes r.count r.used r.area.now o in
     let b = sound_total r.objects r.bytes r.count r.used r.area.now o in
-    (o, c.requires.absent, (c.requires.room.0, omega (arith, c.requires.room.1), omega (arith, c.requires.room.2)))
+    record {
+      whole = o;
+      absent = c.requires.absent;
+      room = (c.requires.room.0, omega (arith, c.requires.room.1), omega (arith, c.requires.room.2));
+    }
