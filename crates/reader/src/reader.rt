@@ -6,7 +6,6 @@ use decision::cryptogram::Cryptogram;
 use keeping::shares::Shares;
 use keyed::record::Record;
 use run::outcome::Outcome;
-use store::writing::WriteStore;
 
 mod answer;
 mod begin;
@@ -29,7 +28,7 @@ pub enum Phase {
 
 // A reader over a store. The records that the AFL named are the first `len`, and that at `at` is awaited.
 #[derive(Drop)]
-pub struct Reader<S: WriteStore> {
+pub struct Reader<S> {
     store: S,
     opened: bool,
     shares: Shares,

@@ -1,5 +1,4 @@
 use Rattle.std.proofs.Common.{◌≡◌, ◌+◌, ◌<◌, ◌≤◌, length, take, drop, sym, ap, ◌∙◌, subst, arith, rules}
-use Prim.{tt}
 use Rattle.std.proofs.lemmas.List.{take_all}
 use Rattle.run.specs.Run.{hands_out}
 use Rattle.run.specs.Calls.{follow}
@@ -16,7 +15,7 @@ invariant_of-self g c =
     let more = left_behind r.at r.len c.args.left r.records (search rules) c.requires.some.0 c.requires.some.1 in
     let few : r.count + ahead AwaitsRecord r.at r.len ≤ 66 = subst (λ p. r.count + ahead p r.at r.len ≤ 66) c.requires.phase r.few in
     let most : r.len ≤ 64 = r.most in
-    (omega arith, (most, (omega arith, tt)))
+    record { within = omega arith; most = most; few = omega arith }
 
 pub returns : goal.returns
 returns g c = λ bytes.
