@@ -1,7 +1,5 @@
 -- What the words of a line ask for.
-use Rattle.std.specs.Prelude.{◌≡◌, ℕ, ◌+◌, Bool, true, false, List, [], length, Some, None, vec_items, codes, Option, slice_index_or}
-use Rattle.decision.specs.declared.cryptogram.Cryptogram.{Cryptogram}
-use Rattle.decision.specs.declared.cryptogram.Cryptogram.TheVariants.{Aac, Tc, Arqc}
+use Rattle.std.specs.Prelude.{◌≡◌, ℕ, ◌+◌, Bool, true, false, List, [], length, Some, vec_items, codes, slice_index_or}
 use Rattle.lines.specs.Numbers.{number_in, byte_in, all_digits}
 use Rattle.lines.specs.Words.{word_bytes, tag_in, kind_word, sized, one_byte}
 use Rattle.lines.specs.declared.line.Kind.{Kind}

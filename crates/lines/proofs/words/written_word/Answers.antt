@@ -1,4 +1,4 @@
-use Rattle.std.proofs.Common.{◌≡◌, vec_items, IsUtf8, sym, ◌∙◌, subst, arith, rules}
+use Rattle.std.proofs.Common.{◌≡◌, IsUtf8, sym, ◌∙◌, subst, arith, rules}
 use Rattle.hexadecimal.specs.Digits.{written}
 use Rattle.lines.proofs.Hex.{written_utf8}
 use Rattle.lines.proofs.words.written_word.Goals as goal
