@@ -6,9 +6,9 @@ use Rattle.run.specs.declared.refusal.Refusal.{Refusal}
 use Rattle.run.specs.declared.refusal.Refusal.TheVariants.{NotOpen}
 use Rattle.run.specs.State.{Limits, Meaning, holding}
 use Rattle.run.specs.Run.{Course, hands_out, fails, comes_to, begins, answered}
-use Rattle.run.specs.Calls.{Call, write, begin, answer, link_fault, stop, clear, Reply, taken, Done, first, refuse_if, not_open, no_command, short_memory, write_refusal, write_call, begin_refusal, begin_call, answer_call, wrong_code, link_call, stop_call, clear_call, follow, beginning, ready_again, Config, start, step}
+use Rattle.run.specs.Calls.{Call, write, begin, answer, link_fault, stop, clear, Reply, taken, Done, first, refuse_if, not_open, no_command, short_memory, write_refusal, begin_refusal, wrong_code, follow, beginning, ready_again, Config, start, step}
 use Rattle.run.specs.History.{History, turn, calls, commands, also_command, run_to, run_commands}
-use Rattle.run.specs.Account.{Account, own_write, own_begin, own_clear, verdict, take, fed, account, answers, own_calls, own_replies, refusal_of, Alike}
+use Rattle.run.specs.Account.{Account, own_write, own_begin, own_clear, verdict, take, account, answers, own_calls, own_replies, refusal_of, Alike}
 use Rattle.run.specs.Law.{left, Agrees, Accounted, Counted, Runs, Roomy, Stands, Same, Does, Lawful}
 use Rattle.run.proofs.Courses.{stay, sane_begins, sane_answered}
 use Rattle.run.proofs.Kept.{Fixed, fixed_follow, fixed_checked, first_last, opened_first, command_there, fed_checked, told_checked, agrees_checked, agrees_follow, write_same, written_same, begin_same, cleared_same}

@@ -11,7 +11,7 @@ use Rattle.run.specs.declared.refusal.Refusal.{Refusal}
 use Rattle.run.specs.declared.refusal.Refusal.TheVariants.{AlreadyOpen}
 use Rattle.run.specs.State.{Meaning, Limits, holding}
 use Rattle.run.specs.Run.{Course, fails, begins, answered}
-use Rattle.run.specs.Calls.{Call, write, begin, answer, link_fault, stop, clear, taken, refused, Done, checked, first, refuse_if, not_open, no_command, short_list, short_memory, own_refusal, write_refusal, write_call, begin_refusal, beginning, begin_call, answer_call, wrong_code, link_call, stop_call, ready_again, clear_call, follow, Config, configured, start, store_refusal, open_refusal, open_over}
+use Rattle.run.specs.Calls.{Call, write, begin, answer, link_fault, stop, clear, taken, refused, Done, checked, first, refuse_if, not_open, no_command, short_list, short_memory, own_refusal, write_refusal, begin_refusal, beginning, wrong_code, ready_again, follow, Config, configured, start, store_refusal, open_refusal}
 use Rattle.run.specs.History.{calls, commands, since, replies_taken, command_waits, run_to, run_commands}
 use Rattle.run.specs.Account.{account, own_calls, own_replies, answers, refusal_of}
 use Rattle.run.specs.Law.{Roomy, Stands}

@@ -1,5 +1,5 @@
 -- The value that a text brings of a tag. Assumes nothing.
-use Rattle.std.proofs.Common.{◌≡◌, ℕ, ◌+◌, ◌<◌, true, false, cond, eqb, List, [], ◌∷◌, length, get_or, drop, Some, None, Option, sym, refl, ap, ◌∙◌, ⊎_elim}
+use Rattle.std.proofs.Common.{◌≡◌, ℕ, ◌+◌, ◌<◌, cond, eqb, List, [], ◌∷◌, length, get_or, drop, Some, None, Option, sym, refl, ap, ◌∙◌, ⊎_elim}
 use Rattle.std.proofs.lemmas.List.{at_drop_more}
 use Rattle.std.proofs.lemmas.Bool.{cases_Bool, eq-eqb, ne_eqb, cond-true, cond-false}
 use Rattle.dictionary.specs.declared.entry.Entry.{Entry}
@@ -9,7 +9,7 @@ use Rattle.tlv.specs.Values.{value_at}
 use Rattle.store.specs.Map.{empty}
 use Rattle.commands.specs.Commands.{bytes}
 use Rattle.keeping.specs.Keeping.{stored}
-use Rattle.keeping.proofs.Refills.{last_by, last_of, stored_at}
+use Rattle.keeping.proofs.Refills.{last_of, stored_at}
 use Rattle.keeping.proofs.Replacings.{unknown_kept}
 use Rattle.keeping.proofs.Sharing.{passes_by, meets}
 use Rattle.stages.specs.Brought.{last_value}

@@ -2,7 +2,7 @@
 use Rattle.std.proofs.Common.{◌≡◌, ℕ, ◌≤◌, Bool, true, false, cond, ltb, List, length, Ok, Err, Result, sym, refl, ap, ◌∙◌}
 use Rattle.std.proofs.lemmas.Bool.{true≢false, cond-true, cond-false, le-ltb}
 use Rattle.tlv.specs.Objects.{next_at}
-use Rattle.tlv.specs.Series.{Reading, wrong, found, meaning, most_objects}
+use Rattle.tlv.specs.Series.{Reading, wrong, meaning, most_objects}
 use Rattle.tlv.specs.declared.fault.FaultKind.TheVariants.{TagCut}
 use Rattle.tlv.specs.declared.place.Place.{Place}
 use Rattle.tlv.specs.declared.text.ReadRefusal.{ReadRefusal}
@@ -15,7 +15,7 @@ use Rattle.judge.specs.declared.kind.TextKind.TheVariants.{CardAnswer}
 use Rattle.judge.specs.Judge.{judged}
 use Rattle.keeping.specs.declared.shares.Shares.{Shares}
 use Rattle.keeping.specs.declared.refusal.TakeRefusal.{TakeRefusal}
-use Rattle.keeping.specs.declared.refusal.TakeRefusal.TheVariants.{ListShort, Fault, Share}
+use Rattle.keeping.specs.declared.refusal.TakeRefusal.TheVariants.{ListShort, Share}
 use Rattle.keeping.specs.Keeping.{stored_text}
 use Rattle.keeping.specs.Shares.{writer_total}
 use Rattle.keeping.specs.Taking.{on_judged, share_answer, take_answer, take_after}

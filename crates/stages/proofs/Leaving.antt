@@ -1,5 +1,5 @@
 -- The records left to be read. Assumes nothing.
-use Rattle.std.proofs.Common.{◌≡◌, ℕ, zero, suc, ◌+◌, ◌<◌, List, [], ◌∷◌, length, get_or, take, Some, sym, refl, ap, ◌∙◌, arith}
+use Rattle.std.proofs.Common.{◌≡◌, ℕ, zero, suc, ◌<◌, List, [], ◌∷◌, length, get_or, take, Some, refl, ap, arith}
 use Rattle.keyed.specs.declared.record.Record.{Record}
 use Rattle.store.specs.Map.{Map}
 use Rattle.commands.specs.Commands.{read_record}

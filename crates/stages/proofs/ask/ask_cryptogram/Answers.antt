@@ -1,4 +1,4 @@
-use Rattle.std.proofs.Common.{◌≡◌, length, sym, refl, ap, ◌∙◌, rules}
+use Rattle.std.proofs.Common.{length, ap, ◌∙◌, rules}
 use Rattle.commands.specs.Building.{roomy}
 use Rattle.commands.specs.Commands.{generate_command}
 use Rattle.run.specs.State.{awaits_cryptogram}

@@ -1,4 +1,4 @@
-use Rattle.std.proofs.Common.{◌≡◌, length, Ok, Err, sym, refl, ap, ◌∙◌}
+use Rattle.std.proofs.Common.{length, Ok, Err, sym, refl, ap, ◌∙◌}
 use Rattle.run.specs.Run.{fails}
 use Rattle.stages.proofs.Cards.{one_taken, not_error}
 use Rattle.stages.proofs.card.take_object.Goals as goal

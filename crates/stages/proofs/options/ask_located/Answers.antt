@@ -1,7 +1,6 @@
-use Rattle.std.proofs.Common.{◌≡◌, ℕ, ◌<◌, ◌≤◌, Bool, true, false, cond, ◌&&◌, leb, List, length, IfOk, Some, None, Ok, Err, Option, Result, sym, refl, ap, ◌∙◌, arith}
+use Rattle.std.proofs.Common.{◌≡◌, ℕ, ◌<◌, ◌≤◌, Bool, true, false, cond, ◌&&◌, leb, List, length, IfOk, Some, None, Ok, Err, Result, refl, ap, ◌∙◌, arith}
 use Rattle.std.proofs.lemmas.Bool.Decides.{nat_tests}
-use Rattle.keyed.specs.declared.record.Record.{Record as File}
-use Rattle.afl.specs.Afl.{accepted, well_made, distinct, named, records_of, counted}
+use Rattle.afl.specs.Afl.{well_made, distinct, named, records_of, counted}
 use Rattle.run.specs.declared.fault.Cause.{Cause}
 use Rattle.stages.specs.declared.next.Next.{Next}
 use Rattle.stages.specs.declared.next.Next.TheVariants.{Options, Record, Cryptogram, End}

@@ -1,4 +1,4 @@
-use Rattle.std.proofs.Common.{◌≡◌, sym, refl, ap, ◌∙◌}
+use Rattle.std.proofs.Common.{ap, ◌∙◌}
 use Rattle.store.specs.Map.{empty}
 use Rattle.keeping.specs.Keeping.{stored}
 use Rattle.commands.specs.Commands.{bytes}

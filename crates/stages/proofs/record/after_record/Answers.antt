@@ -1,4 +1,4 @@
-use Rattle.std.proofs.Common.{◌≡◌, IfOk, sym, subst}
+use Rattle.std.proofs.Common.{IfOk, sym, subst}
 use Rattle.stages.specs.Nexts.{IsOnward}
 use Rattle.stages.proofs.record.after_record.Goals as goal
 

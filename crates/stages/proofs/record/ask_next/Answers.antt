@@ -1,4 +1,4 @@
-use Rattle.std.proofs.Common.{◌≡◌, ℕ, ◌<◌, length, IfOk, Ok, Err, Result, sym, refl, ap, ◌∙◌, arith}
+use Rattle.std.proofs.Common.{ℕ, ◌<◌, length, IfOk, Ok, Err, Result, ◌∙◌, arith}
 use Rattle.run.specs.declared.fault.Cause.{Cause}
 use Rattle.stages.specs.declared.next.Next.{Next}
 use Rattle.stages.specs.declared.next.Next.TheVariants.{Options, Record, Cryptogram, End}

@@ -1,4 +1,4 @@
-use Rattle.std.proofs.Common.{◌≡◌, Some, sym, refl, ap, ◌∙◌}
+use Rattle.std.proofs.Common.{Some, ap, ◌∙◌}
 use Rattle.store.specs.Map.{changed}
 use Rattle.keeping.specs.Room.{verification_results}
 use Rattle.run.specs.Run.{decides}

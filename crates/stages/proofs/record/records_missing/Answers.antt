@@ -1,4 +1,4 @@
-use Rattle.std.proofs.Common.{◌≡◌, sym, refl, ap, ◌∙◌}
+use Rattle.std.proofs.Common.{ap, ◌∙◌}
 use Rattle.run.specs.Run.{unless, missing, verified, decides}
 use Rattle.stages.proofs.Leaving.{none_left}
 use Rattle.stages.proofs.record.records_missing.Goals as goal
