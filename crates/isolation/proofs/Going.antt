@@ -1,11 +1,11 @@
 -- One call more.
-use Rattle.std.proofs.Common.{◌≡◌, ℕ, ◌+◌, ◌<◌, ◌≤◌, List, [], ◌∷◌, ◌++◌, length, get_or, take, IfOk, Ok, Err, Result, sym, refl, ap, ◌∙◌, subst, ap₂}
+use Rattle.std.proofs.Common.{◌≡◌, ℕ, ◌+◌, ◌<◌, ◌≤◌, List, [], ◌∷◌, ◌++◌, length, get_or, take, IfOk, Ok, Err, Result, refl, ap, ◌∙◌, ap₂}
 use Rattle.std.proofs.lemmas.List.{take_more, length-take-le}
 use Rattle.run.specs.declared.refusal.Refusal.{Refusal}
 use Rattle.run.specs.State.{Meaning}
 use Rattle.run.specs.Calls.{Call, Reply, Config}
 use Rattle.run.specs.History.{History, turn, calls}
-use Rattle.run.specs.Law.{Stands, Lawful}
+use Rattle.run.specs.Law.{Stands}
 use Rattle.reader.specs.declared.reader.Step.{Step}
 use Rattle.reader.specs.declared.reader.Step.TheVariants.{Taken, Command, Ended}
 use Rattle.reader.specs.Meanings.{told, step_length}

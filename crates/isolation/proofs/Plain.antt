@@ -1,5 +1,5 @@
 -- A call that hands no command out.
-use Rattle.std.proofs.Common.{◌≡◌, ℕ, ◌≤◌, List, [], length, take, IfOk, Ok, Err, Result, sym, refl, ap, ◌∙◌, subst, arith}
+use Rattle.std.proofs.Common.{◌≡◌, ℕ, ◌≤◌, List, [], length, IfOk, Ok, Err, Result, sym, refl, ap, ◌∙◌, subst, arith}
 use Rattle.run.specs.declared.refusal.Refusal.{Refusal}
 use Rattle.reader.specs.declared.reader.Step.{Step}
 use Rattle.reader.specs.declared.reader.Step.TheVariants.{Taken, Command, Ended}

@@ -1,5 +1,5 @@
 -- Where a course leads, whatever was held before it, and what a command leaves in its buffer.
-use Rattle.std.proofs.Common.{◌≡◌, ℕ, ◌+◌, ◌<◌, ◌≤◌, List, [], ◌∷◌, ◌++◌, length, get_or, take, drop, Ok, sym, refl, ap, ◌∙◌, ap₂, ⊎_elim, append-nil, arith, take-append-drop}
+use Rattle.std.proofs.Common.{◌≡◌, ℕ, ◌+◌, ◌<◌, ◌≤◌, List, ◌++◌, length, get_or, take, drop, Ok, sym, ap, ◌∙◌, ap₂, ⊎_elim, append-nil, arith, take-append-drop}
 use Rattle.std.proofs.lemmas.List.{length-take-le, length-drop, take_all, drop_all, drop_more, get_or-take}
 use Rattle.std.proofs.lemmas.Bool.{cases_lt}
 use Rattle.store.specs.Map.{Map}
@@ -7,7 +7,7 @@ use Rattle.run.specs.State.{Meaning, Limits, Phase, awaits_record, no_record}
 use Rattle.keyed.specs.declared.record.Record.{Record as File}
 use Rattle.stages.specs.Nexts.{awaiting}
 use Rattle.run.specs.Run.{Course, hands_out, fails, comes_to}
-use Rattle.run.specs.Calls.{Done, follow}
+use Rattle.run.specs.Calls.{follow}
 use Rattle.reader.specs.declared.reader.Step.{Step}
 use Rattle.reader.specs.declared.reader.Step.TheVariants.{Taken, Command, Ended as RunEnded}
 use Rattle.reader.specs.Meanings.{told, buffered, step_length}

@@ -1,17 +1,16 @@
 -- What an opening brings.
-use Rattle.std.proofs.Common.{◌≡◌, ℕ, true, false, List, [], Some, None, Ok, Err, Option, Result, sym, refl, ap, ◌∙◌, subst}
+use Rattle.std.proofs.Common.{◌≡◌, true, [], Some, None, Ok, Err, Option, sym, refl, ap, ◌∙◌, subst}
 use Rattle.std.proofs.lemmas.Bool.{true≢false}
 use Rattle.store.specs.Map.{count}
-use Rattle.keeping.specs.declared.shares.Shares.{Shares}
 use Rattle.run.specs.declared.refusal.Refusal.{Refusal}
 use Rattle.run.specs.State.{Meaning}
 use Rattle.run.specs.Calls.{Reply, taken, command, run_ended, refused, checked, open_refusal, configured, start}
-use Rattle.run.specs.History.{accepted, handed_out}
+use Rattle.run.specs.History.{accepted}
 use Rattle.run.proofs.Whole.{opens}
 use Rattle.reader.specs.declared.reader.Step.{Step}
 use Rattle.reader.specs.declared.reader.Step.TheVariants.{Taken, Command, Ended as RunEnded}
 use Rattle.reader.specs.Bringing.{OpenedStands, OpenedTaken, RefusedOpening}
-use Rattle.reader.specs.Meanings.{told, done}
+use Rattle.reader.specs.Meanings.{told}
 
 -- a step that was taken is no refusal
 accepts : (s : Step) → accepted (told (Ok s) []) ≡ true

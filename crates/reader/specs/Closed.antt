@@ -1,5 +1,5 @@
 -- Puts and drops in the store of a reader, which an open reader refuses.
-use Rattle.std.specs.Prelude.{ℕ, Bool, true, false, cond, List, is_some, Some, None, Ok, Err, Result}
+use Rattle.std.specs.Prelude.{ℕ, Bool, cond, List, is_some, Some, None, Ok, Err, Result}
 use Rattle.store.specs.Map.{Map, changed}
 use Rattle.store.specs.Answer.{put_answer}
 use Rattle.store.specs.declared.writing.Refused.{Refused}

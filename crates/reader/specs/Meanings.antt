@@ -1,5 +1,5 @@
 -- What the code's reader means, and what its calls answer, in the words of the definitions.
-use Rattle.std.specs.Prelude.{ℕ, ◌+◌, ◌-◌, List, ◌++◌, length, take, drop, Ok, Err, Result, slice_index_or}
+use Rattle.std.specs.Prelude.{ℕ, ◌+◌, List, ◌++◌, length, take, drop, Ok, Err, Result, slice_index_or}
 use Rattle.keyed.specs.declared.record.Record.{Record}
 use Rattle.store.specs.declared.reading.ReadStore.{Ghosts}
 use Rattle.run.specs.declared.refusal.Refusal.{Refusal}

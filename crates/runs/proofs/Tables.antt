@@ -9,7 +9,6 @@ use Rattle.dol.specs.Dol.{dol_data}
 use Rattle.afl.specs.Afl.{records_of}
 use Rattle.commands.specs.Commands.{get_options, generate_ac, options_command, generate_command}
 use Rattle.run.specs.Run.{one_object, card_text, after_fci, begins, after_options, after_record, after_cryptogram, answered}
-use Rattle.run.specs.Calls.{write_refusal, write_call, begin_refusal, begin_call, answer_call, link_call, stop_call, clear_call, open_over, outcome_read}
 use Rattle.runs.specs.Worked.{Worked}
 
 pub worked : Worked

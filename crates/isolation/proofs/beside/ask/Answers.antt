@@ -1,4 +1,4 @@
-use Rattle.std.proofs.Common.{◌≡◌, ◌-◌, ◌≤◌, min, length, take, IfOk, sym, ◌∙◌, subst, ap₂, arith, rules}
+use Rattle.std.proofs.Common.{◌≡◌, ◌-◌, ◌≤◌, length, take, IfOk, sym, subst, ap₂, arith, rules}
 use Rattle.std.proofs.lemmas.List.{length-take-le}
 use Rattle.run.specs.Law.{Lawful}
 use Rattle.reader.specs.Meanings.{meaning, told, step_length}

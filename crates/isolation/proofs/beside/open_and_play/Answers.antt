@@ -1,4 +1,3 @@
-use Prim.{tt}
 use Rattle.std.proofs.Common.{◌≡◌, [], length, take, Ok, sym, refl, ap, ◌∙◌, subst, arith, rules}
 use Rattle.run.specs.Calls.{configured}
 use Rattle.reader.specs.Meanings.{meaning, told}

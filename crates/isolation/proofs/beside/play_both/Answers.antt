@@ -1,4 +1,4 @@
-use Rattle.std.proofs.Common.{◌≡◌, length, ◌∙◌, subst, ap₂, rules}
+use Rattle.std.proofs.Common.{◌≡◌, length, subst, ap₂, rules}
 use Rattle.reader.specs.Meanings.{meaning}
 use Rattle.isolation.specs.Beside.{session, CameTo}
 use Rattle.isolation.proofs.Two.{isolated}

@@ -1,4 +1,4 @@
-use Rattle.std.proofs.Common.{◌≡◌, ◌+◌, [], ◌∷◌, length, get_or, take, drop, set, sym, ap, ◌∙◌, subst, ap₂, arith, rules}
+use Rattle.std.proofs.Common.{◌+◌, [], ◌∷◌, length, get_or, take, drop, set, sym, ap, ◌∙◌, subst, ap₂, arith}
 use Rattle.std.proofs.lemmas.List.{length-set, get_or-set_same, take-set-le, drop-set-lt, drop-drop}
 use Rattle.reader.specs.Meanings.{meaning}
 use Rattle.isolation.specs.declared.call.Call.TheVariants.{Write}

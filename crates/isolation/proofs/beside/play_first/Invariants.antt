@@ -1,4 +1,4 @@
-use Rattle.std.proofs.Common.{◌≡◌, List, [], length, take, drop}
+use Rattle.std.proofs.Common.{◌≡◌, [], length, take, drop}
 use Rattle.run.specs.Calls.{Config}
 use Rattle.reader.specs.Meanings.{meaning}
 use Rattle.isolation.specs.Asked.{asks, latest}

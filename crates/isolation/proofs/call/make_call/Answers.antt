@@ -1,4 +1,4 @@
-use Rattle.std.proofs.Common.{◌≡◌, length, sym, refl, subst}
+use Rattle.std.proofs.Common.{length, sym, refl, subst}
 use Rattle.run.specs.Calls.{write, link_fault, stop, clear}
 use Rattle.run.specs.Law.{Does, Lawful}
 use Rattle.reader.specs.declared.reader.Step.TheVariants.{Taken, Ended}

@@ -1,4 +1,4 @@
-use Rattle.std.proofs.Common.{◌≡◌, sym, ap, rules}
+use Rattle.std.proofs.Common.{sym, ap, rules}
 use Rattle.run.specs.Run.{hands_out}
 use Rattle.run.specs.Calls.{follow}
 use Rattle.reader.specs.Meanings.{meaning}

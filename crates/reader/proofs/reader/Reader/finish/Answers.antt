@@ -1,4 +1,4 @@
-use Rattle.std.proofs.Common.{◌≡◌, sym, refl, ap, ◌∙◌, ap₂, rules}
+use Rattle.std.proofs.Common.{rules}
 use Rattle.reader.proofs.reader.Reader.finish.Goals as goal
 
 pub returns : goal.returns

@@ -1,8 +1,7 @@
-use Rattle.std.proofs.Common.{◌≡◌, ◌≤◌, [], length, drop, sym, refl, ap, ◌∙◌, subst, ap₂, arith, rules}
-use Rattle.run.specs.State.{Limits}
+use Rattle.std.proofs.Common.{◌≡◌, ◌≤◌, [], length, drop, sym, refl, ap, ◌∙◌, subst, ap₂, rules}
 use Rattle.run.specs.Calls.{follow}
 use Rattle.stages.specs.Nexts.{course_of}
-use Rattle.reader.specs.Meanings.{meaning, limits_of, step_length}
+use Rattle.reader.specs.Meanings.{meaning, limits_of}
 use Rattle.reader.proofs.Following.{follow_moved, buffer_after}
 use Rattle.reader.proofs.reader.Reader.run_fci.Goals as goal
 

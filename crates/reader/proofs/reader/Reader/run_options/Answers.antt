@@ -1,8 +1,8 @@
-use Rattle.std.proofs.Common.{◌≡◌, ◌≤◌, length, drop, sym, refl, ap, ◌∙◌, subst, ap₂, rules}
+use Rattle.std.proofs.Common.{◌≡◌, ◌≤◌, length, drop, sym, ap, ◌∙◌, subst, ap₂, rules}
 use Rattle.run.specs.Run.{answer_text}
 use Rattle.run.specs.Calls.{follow}
 use Rattle.stages.specs.Nexts.{course_of}
-use Rattle.reader.specs.Meanings.{meaning, limits_of, step_length, phase_meant}
+use Rattle.reader.specs.Meanings.{meaning, limits_of, phase_meant}
 use Rattle.reader.proofs.Following.{follow_moved, buffer_after}
 use Rattle.reader.proofs.reader.Reader.run_options.Goals as goal
 

@@ -2,7 +2,7 @@ use Rattle.std.proofs.Common.{◌≡◌, ◌+◌, ◌≤◌, length, take, drop,
 use Rattle.run.specs.Run.{answer_text, card_text, after_record}
 use Rattle.run.specs.Calls.{follow}
 use Rattle.stages.specs.Nexts.{course_of}
-use Rattle.reader.specs.Meanings.{meaning, limits_of, step_length, phase_meant}
+use Rattle.reader.specs.Meanings.{meaning, limits_of, phase_meant}
 use Rattle.reader.proofs.Following.{follow_moved, buffer_after}
 use Rattle.reader.proofs.reader.Reader.run_record.Goals as goal
 

@@ -1,5 +1,4 @@
-use Rattle.std.proofs.Common.{◌≡◌, sym, ◌∙◌}
-use Prim.{tt}
+use Rattle.std.proofs.Common.{sym, ◌∙◌}
 use Rattle.store.specs.Map.{empty}
 use Rattle.run.specs.Run.{after_record}
 use Rattle.keeping.specs.Keeping.{stored_text}

@@ -1,5 +1,4 @@
-use Rattle.std.proofs.Common.{◌≡◌, ℕ, Bool, true, false, cond, not, ◌||◌, eqb, ltb, IfOk, Ok, Err, Result, sym, refl, ◌∙◌, arith, eqb-true}
-use Rattle.std.proofs.lemmas.Bool.Decides.{nat_tests}
+use Rattle.std.proofs.Common.{◌≡◌, ℕ, Bool, true, false, cond, not, ◌||◌, eqb, ltb, IfOk, Ok, Err, Result, refl, arith, eqb-true}
 use Rattle.store.specs.Map.{Map, Kept, empty, count}
 use Rattle.store.specs.Maps.{same_map}
 use Rattle.keeping.specs.declared.refusal.StoreRefusal.{StoreRefusal}
