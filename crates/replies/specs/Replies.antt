@@ -4,7 +4,6 @@ use Rattle.hexadecimal.specs.Digits.{written}
 use Rattle.keyed.specs.declared.record.Record.{Record}
 use Rattle.store.specs.declared.reading.Copied.{Copied}
 use Rattle.store.specs.declared.reading.Copied.TheVariants.{Missing, Short, Filled}
-use Rattle.store.specs.declared.writing.Refused.{Refused}
 use Rattle.store.specs.declared.writing.Refused.TheVariants.{TooLong, NoRoom}
 use Rattle.tlv.specs.Objects.{fault_number as textFaultNumber}
 use Rattle.judge.specs.declared.fault.ObjectFault.{ObjectFault}

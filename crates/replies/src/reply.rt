@@ -312,10 +312,10 @@ fn fault_words(heap: Global, fault: Option<RunFault>) -> Result<String, AllocErr
 }
 
 // The outcome of a run, by its numbers and the words of its fault.
-fn resulted(heap: Global, res: u8, commands: u8, fault: &str) -> Result<String, AllocError>
-    ensures* { λ r. ⌜ IfOk r (λ s. string_bytes s ≡ codes "outcome result " ++ (decimal res ++ (codes " commands " ++ (decimal commands ++ fault.now)))) ⌝ }
+fn resulted(heap: Global, number: u8, commands: u8, fault: &str) -> Result<String, AllocError>
+    ensures { IfOk result (λ s. string_bytes s ≡ codes "outcome result " ++ (decimal number ++ (codes " commands " ++ (decimal commands ++ fault.now)))) }
 {
-    format!(in heap; "outcome result {res} commands {commands}{fault}")
+    format!(in heap; "outcome result {number} commands {commands}{fault}")
 }
 
 // The outcome of a run.

@@ -13,11 +13,11 @@ more xs rs ys i d less wrote =
 
 pub loop-one-preserved : goal.loop-one-preserved
 loop-one-preserved c =
-    more (string_bytes c.loop-one.out) c.args.records.now (string_bytes c.push_str.new.self) c.loop-one.one_Index _ c.loop-one-test.true
+    more (string_bytes c.loop-one.out) c.args.records.now (string_bytes c.push_str.new.self) c.loop-one.one-index _ c.loop-one-test.true
     (c.in_ok-push_str.ensures.bytes ∙ ap (λ zs. string_bytes c.loop-one.out ++ zs) (c.as_str.ensures.value ∙ c.in_ok-word.ensures))
     ∙ c.loop-one.invariant
 
 pub returns : goal.returns
 returns c =
-    sym (ap (λ zs. string_bytes c.loop-one.out ++ zs) (at_drop_all record_words c.args.records.now c.loop-one.one_Index c.loop-one-test.false) ∙ append-nil (string_bytes c.loop-one.out))
+    sym (ap (λ zs. string_bytes c.loop-one.out ++ zs) (at_drop_all record_words c.args.records.now c.loop-one.one-index c.loop-one-test.false) ∙ append-nil (string_bytes c.loop-one.out))
     ∙ c.loop-one.invariant
