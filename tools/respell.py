@@ -21,8 +21,11 @@ DECLARED = re.compile(
 )
 # Facts that were spelled as words.
 FACTS = {"is_taken": "IsTaken"}
-# Names chosen by hand: two definitions of different crates whose names would fall together.
+# Names chosen by hand: two definitions whose names would fall together, and names that a `use` line gives.
 CHOSEN = {
+    "dol-data": "fills",
+    "textFaultNumber": "text_fault_number",
+    "waitsAt": "waits_at",
     "putAfter": "closed_put_after",
     "putAnswer": "closed_put_answer",
     "putTold": "closed_put_told",
@@ -87,7 +90,7 @@ def make():
     for old, new in table.items():
         if "-" in old and not old[0].isupper() and new in definitions | functions:
             table[old] = new + "_lem"
-    table.update((old, new) for old, new in CHOSEN.items() if old in table)
+    table.update(CHOSEN)
     news = collections.defaultdict(list)
     for old, new in table.items():
         news[new].append(old)

@@ -5,7 +5,7 @@ use Rattle.keyed.specs.declared.record.Record.{Record}
 use Rattle.store.specs.declared.reading.Copied.{Copied}
 use Rattle.store.specs.declared.reading.Copied.TheVariants.{Missing, Short, Filled}
 use Rattle.store.specs.declared.writing.Refused.TheVariants.{TooLong, NoRoom}
-use Rattle.tlv.specs.Objects.{fault_number as textFaultNumber}
+use Rattle.tlv.specs.Objects.{fault_number as text_fault_number}
 use Rattle.judge.specs.declared.fault.ObjectFault.{ObjectFault}
 use Rattle.judge.specs.declared.fault.ObjectFault.TheVariants.{Text, Object}
 use Rattle.judge.specs.Faults.{fault_number}
@@ -75,7 +75,7 @@ read_line name (Err e) buffer = refusal_line name e
 -- the text fault or the object fault that a run's fault carries
 abbrev pub carried_words : Option ObjectFault → List ℕ
 carried_words None = []
-carried_words (Some (Text f)) = codes " text " ++ (decimal (textFaultNumber f.kind) ++ (codes " place " ++ decimal f.at))
+carried_words (Some (Text f)) = codes " text " ++ (decimal (text_fault_number f.kind) ++ (codes " place " ++ decimal f.at))
 carried_words (Some (Object k p t)) = codes " object " ++ (decimal (fault_number k) ++ (codes " place " ++ (decimal p ++ (codes " tag " ++ tag_word t))))
 
 -- the marks of a cause: L1, L2, the phase and the record, and the tag that was missing

@@ -1,6 +1,6 @@
 -- The numbers by which phases, causes, outcomes and refusals are known, once for each, and what each carries.
 use Rattle.std.specs.Prelude.{ℕ, List, [], ◌∷◌, Some, None, Option}
-use Rattle.tlv.specs.Objects.{fault_number as textFaultNumber}
+use Rattle.tlv.specs.Objects.{fault_number as text_fault_number}
 use Rattle.judge.specs.declared.fault.ObjectFault.{ObjectFault}
 use Rattle.judge.specs.declared.fault.ObjectFault.TheVariants.{Text, Object}
 use Rattle.judge.specs.Faults.{fault_number}
@@ -38,7 +38,7 @@ told n k p t = record { number = n; kind = k; place = p; tag = t }
 
 -- a text fault is told by 5, an object fault by 6, each with its kind and place, and the object's with its tag
 abbrev pub fault_told : ObjectFault → Told
-fault_told (Text f) = told 5 (textFaultNumber f.kind) f.at 0
+fault_told (Text f) = told 5 (text_fault_number f.kind) f.at 0
 fault_told (Object k p t) = told 6 (fault_number k) p t
 
 -- The refusals. A reader that is not open, and at opening one that is, are both told by 1.

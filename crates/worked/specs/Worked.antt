@@ -18,7 +18,7 @@ use Rattle.tlv.specs.Worked.{Worked as TextsWorked}
 -- A row: what is given, and then what comes of it.
 pub data Row : Type 0 where
   -- what is held, the most data, a list, and its data
-  dol_data_lem : Map → ℕ → List ℕ → Option (List ℕ) → Row
+  fills : Map → ℕ → List ℕ → Option (List ℕ) → Row
   -- an AFL and its records
   records : List ℕ → Option (List Record) → Row
   -- a record and the command that reads it
@@ -35,7 +35,7 @@ pub data Row : Type 0 where
   gives : Cryptogram → ℕ → Result Cryptogram WrongCryptogram → Row
 
 abbrev pub Holds : Row → Type 0
-Holds (dol_data_lem held limit dol ds) = dol_data held limit dol ≡ ds
+Holds (fills held limit dol ds) = dol_data held limit dol ≡ ds
 Holds (records afl rs) = records_of afl ≡ rs
 Holds (reads r bs) = read_record r ≡ bs
 Holds (options held bs) = options_command held ≡ bs
@@ -67,16 +67,16 @@ holding t v = changed sale t (Some v)
 abbrev pub table : List Row
 table =
     -- the amount at four bytes and at eight, and an account number at five
-    dol_data_lem sale 255 (0x9F ∷ 0x02 ∷ 0x04 ∷ []) (Some (0x00 ∷ 0x00 ∷ 0x12 ∷ 0x50 ∷ []))
-    ∷ dol_data_lem sale 255 (0x9F ∷ 0x02 ∷ 0x08 ∷ []) (Some (0x00 ∷ 0x00 ∷ 0x00 ∷ 0x00 ∷ 0x00 ∷ 0x00 ∷ 0x12 ∷ 0x50 ∷ []))
-    ∷ dol_data_lem sale 255 (0x5A ∷ 0x05 ∷ []) (Some (0x12 ∷ 0x34 ∷ 0x5F ∷ 0xFF ∷ 0xFF ∷ []))
+    fills sale 255 (0x9F ∷ 0x02 ∷ 0x04 ∷ []) (Some (0x00 ∷ 0x00 ∷ 0x12 ∷ 0x50 ∷ []))
+    ∷ fills sale 255 (0x9F ∷ 0x02 ∷ 0x08 ∷ []) (Some (0x00 ∷ 0x00 ∷ 0x00 ∷ 0x00 ∷ 0x00 ∷ 0x00 ∷ 0x12 ∷ 0x50 ∷ []))
+    ∷ fills sale 255 (0x5A ∷ 0x05 ∷ []) (Some (0x12 ∷ 0x34 ∷ 0x5F ∷ 0xFF ∷ 0xFF ∷ []))
     -- a tag that is not held, an unknown one and a constructed one
-    ∷ dol_data_lem sale 255 (0x9F ∷ 0x37 ∷ 0x02 ∷ 0x9F ∷ 0x01 ∷ 0x01 ∷ 0x70 ∷ 0x01 ∷ []) (Some (0x00 ∷ 0x00 ∷ 0x00 ∷ 0x00 ∷ []))
+    ∷ fills sale 255 (0x9F ∷ 0x37 ∷ 0x02 ∷ 0x9F ∷ 0x01 ∷ 0x01 ∷ 0x70 ∷ 0x01 ∷ []) (Some (0x00 ∷ 0x00 ∷ 0x00 ∷ 0x00 ∷ []))
     -- a tag cut short, no length byte, a third tag byte with bit 8 set, and one byte too many
-    ∷ dol_data_lem sale 255 (0x9F ∷ []) None
-    ∷ dol_data_lem sale 255 (0x9F ∷ 0x02 ∷ []) None
-    ∷ dol_data_lem sale 255 (0x9F ∷ 0x81 ∷ 0x81 ∷ 0x01 ∷ []) None
-    ∷ dol_data_lem sale 5 (0x9F ∷ 0x02 ∷ 0x06 ∷ []) None
+    ∷ fills sale 255 (0x9F ∷ []) None
+    ∷ fills sale 255 (0x9F ∷ 0x02 ∷ []) None
+    ∷ fills sale 255 (0x9F ∷ 0x81 ∷ 0x81 ∷ 0x01 ∷ []) None
+    ∷ fills sale 5 (0x9F ∷ 0x02 ∷ 0x06 ∷ []) None
     -- four records, and the last one's command
     ∷ records (0x08 ∷ 0x01 ∷ 0x03 ∷ 0x00 ∷ 0x10 ∷ 0x01 ∷ 0x01 ∷ 0x01 ∷ []) (Some (record_at 1 1 ∷ record_at 1 2 ∷ record_at 1 3 ∷ record_at 2 1 ∷ []))
     ∷ reads (record_at 2 1) (0x00 ∷ 0xB2 ∷ 0x01 ∷ 0x14 ∷ 0x00 ∷ [])

@@ -1,6 +1,6 @@
 // What can be read of a reader.
 ghost use Rattle.std.specs.Prelude.{◌≡◌, ◌≤◌};
-ghost use Rattle.run.specs.State.{kind_of, record_of, waits as waitsAt, closed};
+ghost use Rattle.run.specs.State.{kind_of, record_of, waits as waits_at, closed};
 ghost use Rattle.run.specs.Calls.{outcome_read, phase_read, count_read};
 ghost use Rattle.reader.specs.Meanings.{limits_of, meaning};
 
@@ -78,7 +78,7 @@ impl<S: WriteStore> Reader<S> {
 
     // Whether a command waits for its answer.
     pub(crate) fn waits(&self) -> bool
-        ensures { result ≡ waitsAt (meaning S.ReadStore self.now).phase }
+        ensures { result ≡ waits_at (meaning S.ReadStore self.now).phase }
     {
         match self.phase {
             Phase::Ready | Phase::Ended(_) => false,
