@@ -1,6 +1,6 @@
 -- Each record that an accepted AFL names stands once in its list, in a file of SFI 1 to 30.
 use Rattle.std.proofs.Common.{◌≡◌, ℕ, zero, suc, ◌+◌, ◌-◌, ◌*◌, ◌/◌, ◌%◌, ◌<◌, ◌≤◌, Bool, true, false, cond, not, ◌&&◌, eqb, ltb, leb, List, [], ◌∷◌, ◌++◌, sym, refl, ap, ◌∙◌, subst, ⊎_elim, arith}
-use Rattle.std.specs.List.{AllByRecursion as All}
+use Rattle.std.specs.List.{AllByRecursion}
 use Rattle.std.proofs.ByRecursion.{All-append}
 use Rattle.std.proofs.lemmas.Bool.{false≢true, true≢false, eqb-true, eq-eqb, leb-true, and_parts, and_from, or_cases, or_parts, not-true, le-leb, cond-true, cases_eq}
 use Rattle.keyed.specs.declared.record.Record.{Record}
@@ -146,11 +146,11 @@ each_once bs rs e x = by (names bs x) refl
 abbrev InFile : Record → Type 0
 InFile r = (1 ≤ r.sfi) × (r.sfi ≤ 30)
 
-run_files : (s n k : ℕ) → 1 ≤ s → s ≤ 30 → All InFile (run s n k)
+run_files : (s n k : ℕ) → 1 ≤ s → s ≤ 30 → AllByRecursion InFile (run s n k)
 run_files s n zero low high = tt
 run_files s n (suc k) low high = ((low, high), run_files s (n + 1) k low high)
 
-named_files : (bs : List ℕ) → well_made bs ≡ true → All InFile (named bs)
+named_files : (bs : List ℕ) → well_made bs ≡ true → AllByRecursion InFile (named bs)
 named_files [] w = tt
 named_files (f ∷ []) w = tt
 named_files (f ∷ a ∷ []) w = tt
@@ -164,4 +164,4 @@ named_files (f ∷ a ∷ z ∷ n ∷ bs) w =
     All-append InFile (run (f / 8) a (z + 1 - a)) (named bs) (run_files (f / 8) a (z + 1 - a) (omega (arith, low)) (omega (arith, high))) (named_files bs parts.1)
 
 pub in_files : (bs : List ℕ) → Files bs
-in_files bs rs e = let is = accepted_is bs rs e in subst (All InFile) (sym is.1) (named_files bs is.0)
+in_files bs rs e = let is = accepted_is bs rs e in subst (AllByRecursion InFile) (sym is.1) (named_files bs is.0)

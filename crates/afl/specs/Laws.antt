@@ -1,6 +1,6 @@
 -- What holds of the records of an accepted AFL.
 use Rattle.std.specs.Prelude.{◌≡◌, ℕ, ◌+◌, ◌*◌, ◌≤◌, Bool, false, cond, ◌&&◌, ◌||◌, List, [], ◌∷◌, Some, ◌==◌, nat_le}
-use Rattle.std.specs.List.{AllByRecursion as All}
+use Rattle.std.specs.List.{AllByRecursion}
 use Rattle.keyed.specs.declared.record.Record.{Record}
 use Rattle.keyed.specs.Records.{record_same}
 use Rattle.afl.specs.Afl.{records_of}
@@ -28,4 +28,4 @@ EachOnce bs = (rs : List Record) → records_of bs ≡ Some rs → (x : Record) 
 
 -- Each of its records is in a file of SFI 1 to 30.
 abbrev pub Files : List ℕ → Type 0
-Files bs = (rs : List Record) → records_of bs ≡ Some rs → All (λ r. (1 ≤ r.sfi) × (r.sfi ≤ 30)) rs
+Files bs = (rs : List Record) → records_of bs ≡ Some rs → AllByRecursion (λ r. (1 ≤ r.sfi) × (r.sfi ≤ 30)) rs

@@ -4,7 +4,7 @@
 -- same wanted tags, and the same own objects among the wanted ones and in the Data Record.
 use Rattle.std.specs.Prelude.{◌≡◌, ℕ, true, cond, List, [], ◌∷◌, length, take, IfOk, Some, Result}
 use Rattle.std.specs.Option.{option_map}
-use Rattle.std.specs.List.{AllByRecursion as All}
+use Rattle.std.specs.List.{AllByRecursion}
 use Rattle.store.specs.Map.{Map}
 use Rattle.keeping.specs.Own.{own_tag}
 use Rattle.readout.specs.Shown.{Object, objects_in}
@@ -33,7 +33,7 @@ OwnBack r out xs = IfOk r (λ n. option_map own_of (objects_in (take n out)) ≡
 
 -- the tags are our own
 abbrev pub AllOwn : List ℕ → Type 0
-AllOwn = All (λ t. own_tag t ≡ true)
+AllOwn = AllByRecursion (λ t. own_tag t ≡ true)
 
 -- one object, as the account's objects would give it
 pub record ObjectAs (own : Map) (t : ℕ) (r : Result ℕ Refusal) (out out' : List ℕ) : Type 0 where

@@ -1,7 +1,7 @@
 -- The wanted objects are those shown for the tags of the list.
 use Rattle.std.proofs.Common.{◌≡◌, ℕ, List, [], ◌∷◌, ◌++◌, IfOk, Some, None, Ok, Err, Option, Result, refl, ap, ◌∙◌}
 use Rattle.std.proofs.lemmas.Bool.{cond-true}
-use Rattle.std.specs.List.{AllByRecursion as All}
+use Rattle.std.specs.List.{AllByRecursion}
 use Rattle.store.specs.Map.{Map}
 use Rattle.tlv.specs.Written.{is_tag}
 use Rattle.readout.specs.declared.object.Absent.TheVariants.{Empty}
@@ -22,7 +22,7 @@ each (t ∷ ts) m h =
 pub wanted_is : (ts : List ℕ) (m : Map) → AllTags ts → Ok ts ≡ wanted_by m → objects_at Empty ts m ≡ wanted_objects m
 wanted_is ts m h e = each ts m h ∙ ap (λ r. each_of (tags_in r) m) e
 
-each_only : (ts : List ℕ) (m n : Map) → All (λ t. m t ≡ n t) ts → each_of ts m ≡ each_of ts n
+each_only : (ts : List ℕ) (m n : Map) → AllByRecursion (λ t. m t ≡ n t) ts → each_of ts m ≡ each_of ts n
 each_only [] m n h = refl
 each_only (t ∷ ts) m n h = ap (λ o. object_of t (value_of o) ∷ each_of ts m) h.0 ∙ ap (λ xs. object_of t (value_of (n t)) ∷ xs) (each_only ts m n h.1)
 

@@ -4,7 +4,7 @@ use borrow.Rule.Slice.PartMut.{put_mid}
 use Rattle.std.proofs.lemmas.Slice.{take-put_mid, drop-put_mid}
 use Rattle.std.proofs.lemmas.Bool.{le-ltb, cond-true, cond-false}
 use Rattle.std.proofs.lemmas.List.{take_at, append-nil, append_assoc}
-use Rattle.std.specs.List.{AllByRecursion as All}
+use Rattle.std.specs.List.{AllByRecursion}
 use Rattle.std.specs.Option.{option_map}
 use Rattle.store.specs.Map.{Map}
 use Rattle.store.specs.Answer.{copy_after}
@@ -94,7 +94,7 @@ bytes_append (x ∷ xs) ys = ap (λ w. object_bytes x.tag x.value ++ w) (bytes_a
 
 -- every object that is shown has a tag
 abbrev pub Tags : List Object → Type 0
-Tags = All (λ x. is_tag x.tag ≡ true)
+Tags = AllByRecursion (λ x. is_tag x.tag ≡ true)
 
 both : (xs ys : List Object) → Tags xs → Tags ys → Tags (xs ++ ys)
 both [] ys a b = b

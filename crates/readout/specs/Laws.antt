@@ -1,6 +1,6 @@
 -- What is written depends on the tags written alone.
 use Rattle.std.specs.Prelude.{◌≡◌, ℕ, List, [], ◌∷◌}
-use Rattle.std.specs.List.{AllByRecursion as All}
+use Rattle.std.specs.List.{AllByRecursion}
 use Rattle.store.specs.Map.{Map}
 use Rattle.readout.specs.declared.object.Absent.{Absent}
 use Rattle.readout.specs.declared.object.Absent.TheVariants.{LeftOut}
@@ -9,7 +9,7 @@ use Rattle.readout.specs.Output.{record_tags}
 
 -- Two maps that hold the same under these tags have the same objects, whatever else they hold.
 abbrev pub OnlyAt : Absent → List ℕ → Type 0
-OnlyAt a ts = (m n : Map) → All (λ t. m t ≡ n t) ts → objects_at a ts m ≡ objects_at a ts n
+OnlyAt a ts = (m n : Map) → AllByRecursion (λ t. m t ≡ n t) ts → objects_at a ts m ≡ objects_at a ts n
 
 -- One object depends on what is held under its tag.
 abbrev pub OnlyHeld : ℕ → Type 0

@@ -1,6 +1,6 @@
 -- What is written out: objects, one after the other, and what reading them gives.
 use Rattle.std.specs.Prelude.{◌≡◌, ℕ, zero, suc, true, cond, List, [], ◌∷◌, ◌++◌, length, take, IfOk, Some, None, Option, Result}
-use Rattle.std.specs.List.{AllByRecursion as All}
+use Rattle.std.specs.List.{AllByRecursion}
 use Rattle.std.specs.Option.{option_map}
 use Rattle.store.specs.Map.{Map}
 use Rattle.tlv.specs.Objects.{end, primitive, constructed, Next, fault, seen, next_at}
@@ -30,7 +30,7 @@ shown a t o = cond (is_tag t) (given a t o) []
 
 -- the numbers are those of tags
 abbrev pub AllTags : List ℕ → Type 0
-AllTags = All (λ t. is_tag t ≡ true)
+AllTags = AllByRecursion (λ t. is_tag t ≡ true)
 
 -- the objects of a map under these tags, in their order
 abbrev pub objects_at : Absent → List ℕ → Map → List Object

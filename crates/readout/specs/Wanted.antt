@@ -1,6 +1,6 @@
 -- The wanted objects: the tags of a list, each once, and what is written for them.
 use Rattle.std.specs.Prelude.{◌≡◌, ℕ, zero, suc, ◌+◌, ◌-◌, Bool, false, cond, ◌||◌, List, [], ◌∷◌, ◌++◌, length, Some, None, Ok, Err, Option, Result, ◌==◌, nat_lt}
-use Rattle.std.specs.List.{AllByRecursion as All}
+use Rattle.std.specs.List.{AllByRecursion}
 use Rattle.store.specs.Map.{Map}
 use Rattle.tlv.specs.declared.fault.FaultKind.{FaultKind}
 use Rattle.tlv.specs.declared.fault.FaultKind.TheVariants.{TooMany}
@@ -100,7 +100,7 @@ wanted_answer room m n = cond (nat_lt room 64) (Err Short) (on_tags (wanted_by m
 
 -- Two maps that hold the same under DF8112 and under the tags of its list have the same wanted objects.
 abbrev pub OnlyWanted : Map → Type 0
-OnlyWanted m = (n : Map) → m 0xDF_8112 ≡ n 0xDF_8112 → All (λ t. m t ≡ n t) (wanted_at m) → wanted_objects m ≡ wanted_objects n
+OnlyWanted m = (n : Map) → m 0xDF_8112 ≡ n 0xDF_8112 → AllByRecursion (λ t. m t ≡ n t) (wanted_at m) → wanted_objects m ≡ wanted_objects n
 
 -- whether a tag stands in a list
 abbrev pub stands : ℕ → Listed → Bool
