@@ -1,17 +1,9 @@
 -- An element of another key than all of a list keeps its elements apart.
-use Rattle.std.proofs.Common.{◌≡◌, ℕ, zero, suc, ◌+◌, ◌<◌, Bool, true, false, List, [], ◌∷◌, ◌++◌, length, get_or, sym, refl, ap, ◌∙◌, ⊎_elim, arith}
+use Rattle.std.proofs.Common.{◌≡◌, ℕ, zero, suc, ◌+◌, ◌<◌, Bool, true, false, ◌||◌, List, [], ◌∷◌, ◌++◌, length, get_or, sym, refl, ap, ◌∙◌, ⊎_elim, arith}
 use Rattle.std.proofs.lemmas.List.{length_push, get_or_push, get_or_append_left}
-use Rattle.std.proofs.lemmas.Bool.{cases_lt}
-use Rattle.keyed.specs.Keys.{or, holds, Distinct}
-
-or_left : (a b : Bool) → or a b ≡ false → a ≡ false
-or_left true b h = h
-or_left false b h = refl
-
-or_right : (a b : Bool) → or a b ≡ false → b ≡ false
-or_right true true h = h
-or_right true false h = refl
-or_right false b h = h
+use Rattle.std.proofs.lemmas.Bool.{cases_lt, or_parts}
+use Rattle.std.proofs.Math.Bool.{or-true}
+use Rattle.keyed.specs.Keys.{holds, Distinct}
 
 contrary : (a b : Bool) → (a ≡ true → b ≡ true) → b ≡ false → a ≡ false
 contrary true b f h = sym (f refl) ∙ h
@@ -22,16 +14,12 @@ both_ways true b f g = sym (f refl)
 both_ways false true f g = g refl
 both_ways false false f g = refl
 
-or_true : (a : Bool) → or a true ≡ true
-or_true true = refl
-or_true false = refl
-
 module _ {X : Type 0} (same : X → X → Bool) where
   -- where no element has the key of x, each has another
   pub other_keys : (xs : List X) (x : X) → holds same xs x ≡ false → (k : ℕ) (d : X) → k < length xs → same (get_or xs k d) x ≡ false
   other_keys [] x h k d l = absurd (omega arith)
-  other_keys (y ∷ ys) x h zero d l = or_left (same y x) (holds same ys x) h
-  other_keys (y ∷ ys) x h (suc k) d l = other_keys ys x (or_right (same y x) (holds same ys x) h) k d (omega arith)
+  other_keys (y ∷ ys) x h zero d l = (or_parts (same y x) (holds same ys x) h).0
+  other_keys (y ∷ ys) x h (suc k) d l = other_keys ys x (or_parts (same y x) (holds same ys x) h).1 k d (omega arith)
 
   module _ (symmetric : (x y : X) → same x y ≡ true → same y x ≡ true) where
     pub distinct_push : (xs : List X) (x : X) → Distinct same xs → holds same xs x ≡ false → Distinct same (xs ++ x ∷ [])
@@ -54,8 +42,8 @@ module _ {X : Type 0} (same : X → X → Bool) where
 
   -- an element that was added is there
   pub holds_push : ((x : X) → same x x ≡ true) → (xs : List X) (x : X) → holds same (xs ++ x ∷ []) x ≡ true
-  holds_push reflexive [] x = ap (λ b. or b false) (reflexive x)
-  holds_push reflexive (y ∷ ys) x = ap (or (same y x)) (holds_push reflexive ys x) ∙ or_true (same y x)
+  holds_push reflexive [] x = ap (λ b. b || false) (reflexive x)
+  holds_push reflexive (y ∷ ys) x = ap (λ b. same y x || b) (holds_push reflexive ys x) ∙ or-true (same y x)
 
   -- equal keys are held alike
   module _ (symmetric : (x y : X) → same x y ≡ true → same y x ≡ true) (transitive : (x y z : X) → same x y ≡ true → same y z ≡ true → same x z ≡ true) where
@@ -64,4 +52,4 @@ module _ {X : Type 0} (same : X → X → Bool) where
     holds_alike (z ∷ zs) x y e =
         let alike : same z x ≡ same z y =
         both_ways (same z x) (same z y) (λ h. transitive z x y h e) (λ h. transitive z y x h (symmetric x y e)) in
-        ap (λ b. or b (holds same zs x)) alike ∙ ap (or (same z y)) (holds_alike zs x y e)
+        ap (λ b. b || holds same zs x) alike ∙ ap (λ b. same z y || b) (holds_alike zs x y e)

@@ -1,13 +1,6 @@
 -- Keys, and lists of elements that have them.
-use Rattle.std.specs.Prelude.{◌≡◌, ℕ, ◌<◌, Bool, true, false, List, [], ◌∷◌, length, ◌≢◌, slice_index_or}
-
-abbrev pub both : Bool → Bool → Bool
-both true b = b
-both false b = false
-
-abbrev pub or : Bool → Bool → Bool
-or true b = true
-or false b = b
+use Rattle.std.specs.Prelude.{◌≡◌, ℕ, ◌<◌, Bool, false, List, length, ◌≢◌, slice_index_or}
+use Rattle.std.specs.List.{list_any}
 
 -- whether two elements have equal keys
 abbrev pub by : {X K : Type 0} → (X → K) → (K → K → Bool) → X → X → Bool
@@ -15,8 +8,7 @@ by key same x y = same (key x) (key y)
 
 -- whether one of the elements has the key of x
 abbrev pub holds : {X : Type 0} → (X → X → Bool) → List X → X → Bool
-holds same [] x = false
-holds same (y ∷ ys) x = or (same y x) (holds same ys x)
+holds same ys x = list_any (λ y. same y x) ys
 
 -- no two elements have equal keys
 abbrev pub Distinct : {X : Type 0} → (X → X → Bool) → List X → Type 0

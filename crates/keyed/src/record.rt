@@ -25,6 +25,6 @@ impl Keyed for Record {
     ghost transitive = { Prim.search rules };
 
     fn same_key(&self, other: &Record) -> bool {
-        self.sfi == other.sfi && self.number == other.number
+        self == other
     }
 }

@@ -5,7 +5,7 @@ ghost use Rattle.std.proofs.Common.{rules, arith};
 use crate::key::Keyed;
 
 // A tag of one to three bytes, the first byte being the highest: a number of 24 bits.
-#[derive(Clone, Copy)]
+#[derive(Clone, Copy, PartialEq, Eq, Debug)]
 pub struct Tag {
     value: u32,
     ghost ok: { value < 16777216 },
@@ -45,6 +45,6 @@ impl Keyed for Tag {
     ghost transitive = { first_of (Prim.search rules, Prim.grind (arith, Self.row.coded.inj)) };
 
     fn same_key(&self, other: &Tag) -> bool {
-        self.number() == other.number()
+        self == other
     }
 }

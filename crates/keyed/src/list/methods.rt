@@ -3,19 +3,14 @@ ghost use Rattle.std.specs.Prelude.{◌≡◌, ◌+◌, ◌<◌, ◌≤◌, true
 ghost use Rattle.keyed.specs.Keys.{by, holds, Distinct};
 ghost use Rattle.keyed.specs.Elements.{elements, memory, answer, grown, stored};
 
-use super::{Addition, KeyedList};
+use super::{KeyedList, NotAdded};
 use crate::key::Keyed;
 
 // Whether one of the items has the key of `x`.
 fn any_same<T: Keyed>(items: &[T], x: &T) -> bool
     ensures { result ≡ holds (by T.key T.same) items.now x.now }
 {
-    for y in items {
-        if y.same_key(x) {
-            return true;
-        }
-    }
-    false
+    items.iter().any(|y| y.same_key(x))
 }
 
 // The same, and that items with the key of `x` are looked for alike.
@@ -38,23 +33,6 @@ fn put<T: Keyed + Copy>(items: &mut [T], n: usize, x: T)
     items[n] = x;
 }
 
-// How many of the items the first `n` are, where there may be fewer.
-fn count_of<T>(items: &[T], n: usize) -> usize
-    ensures value { result ≡ length (take n items.now) }
-    ensures within { result ≤ length items.now }
-    ensures front { take result items.now ≡ take n items.now }
-{
-    n.min(items.len())
-}
-
-// The first `n` items, or all of them where there are fewer.
-fn first_of<T>(items: &[T], n: usize) -> &[T]
-    ensures { result.now ≡ take n items.now }
-{
-    let n = n.min(items.len());
-    &items[0..n]
-}
-
 impl<'a, T> KeyedList<'a, T> {
     // No element yet; room for as many as there are items.
     pub fn new(items: &'a mut [T]) -> KeyedList<'a, T>
@@ -71,14 +49,14 @@ impl<'a, T> KeyedList<'a, T> {
         ensures within { result ≤ length (memory self.now) }
         ensures front { take result (memory self.now) ≡ elements self.now }
     {
-        count_of(&*self.items, self.len)
+        self.as_slice().len()
     }
 
     // The elements, in the order in which they were added.
     pub fn as_slice(&self) -> &[T]
         ensures { result.now ≡ elements self.now }
     {
-        first_of(&*self.items, self.len)
+        &self.items[0..self.len]
     }
 }
 
@@ -94,24 +72,24 @@ impl<'a, T: Keyed> KeyedList<'a, T> {
 
 impl<'a, T: Keyed + Copy> KeyedList<'a, T> {
     // Puts `x` at the end, unless an element of equal key is there or the list is full.
-    pub fn add(&mut self, x: T) -> Addition
+    pub fn add(&mut self, x: T) -> Result<(), NotAdded>
         ensures answer { result ≡ answer (by T.key T.same) (length (memory self.old)) (elements self.old) x }
         ensures elements { elements self.new ≡ grown result (elements self.old) x }
         ensures memory { memory self.new ≡ stored result (memory self.old) (length (elements self.old)) x }
         ensures room { length (memory self.new) ≡ length (memory self.old) }
         ensures distinct { Distinct (by T.key T.same) (elements self.old) → Distinct (by T.key T.same) (elements self.new) }
-        ensures there { (result ≢ Addition.Full) → holds (by T.key T.same) (elements self.new) x ≡ true }
+        ensures there { (result ≢ Err NotAdded.Full) → holds (by T.key T.same) (elements self.new) x ≡ true }
         ensures named { self.new.items.ghost_name ≡ self.old.items.ghost_name }
     {
         if self.contains(&x) {
-            return Addition::AlreadyThere;
+            return Err(NotAdded::AlreadyThere);
         }
-        let n = self.len();
+        let n = self.len;
         if n >= self.items.len() {
-            return Addition::Full;
+            return Err(NotAdded::Full);
         }
         put(&mut *self.items, n, x);
         self.len = n + 1;
-        Addition::Added
+        Ok(())
     }
 }
