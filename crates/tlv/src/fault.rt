@@ -19,12 +19,12 @@ pub enum FaultKind {
     TooMany = 6,
 }
 
-impl FaultKind {
-    // The number by which the fault is known.
-    pub fn number(self) -> u8
-        ensures { result ≡ fault_number self }
-    {
-        self as u8
+// The number by which the fault is known.
+impl From<FaultKind> for u8 {
+    ghost from_gives = { λ kind n. n ≡ fault_number kind };
+
+    fn from(kind: FaultKind) -> u8 {
+        kind as u8
     }
 }
 

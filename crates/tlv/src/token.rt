@@ -30,13 +30,8 @@ pub fn read_tag(text: &[u8]) -> Result<(u32, &[u8]), FaultKind>
 {
     match text {
         [a, rest @ ..] if *a & 0x1f != 0x1f => Ok((u32::from(*a), rest)),
-        [a, b, rest @ ..] if *b < 0x80 => Ok((u32::from(*a) * 0x100 + u32::from(*b), rest)),
-        [a, b, c, rest @ ..] if *c < 0x80 => {
-            Ok((
-                u32::from(*a) * 0x1_0000 + u32::from(*b) * 0x100 + u32::from(*c),
-                rest,
-            ))
-        }
+        [a, b, rest @ ..] if *b < 0x80 => Ok((u32::from_be_bytes([0, 0, *a, *b]), rest)),
+        [a, b, c, rest @ ..] if *c < 0x80 => Ok((u32::from_be_bytes([0, *a, *b, *c]), rest)),
         [_, _, _, ..] => Err(FaultKind::TagLong),
         _ => Err(FaultKind::TagCut),
     }
@@ -73,16 +68,11 @@ pub fn next_token(text: &[u8], end: usize) -> Result<(Token<'_>, &[u8]), TextFau
         return Ok((Token::End, object));
     };
     let at = end.saturating_sub(object.len());
-    let (tag, sized) = match read_tag(object) {
-        Ok(found) => found,
-        Err(kind) => return Err(TextFault { kind, at }),
-    };
-    let Some((n, body)) = read_length(sized) else {
-        return Err(TextFault {
-            kind: FaultKind::BadLength,
-            at,
-        });
-    };
+    let (tag, sized) = read_tag(object).map_err(|kind| TextFault { kind, at })?;
+    let (n, body) = read_length(sized).ok_or(TextFault {
+        kind: FaultKind::BadLength,
+        at,
+    })?;
     let n = usize::from(n);
     if body.len() < n {
         return Err(TextFault {

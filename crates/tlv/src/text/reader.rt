@@ -11,7 +11,7 @@ use super::ReadRefusal;
 use crate::fault::{FaultKind, TextFault};
 use crate::place::Place;
 use crate::token::{Token, next_token};
-use keyed::list::{Addition, KeyedList};
+use keyed::list::{KeyedList, NotAdded};
 
 // The most primitive objects of a text, and the depth of its innermost objects.
 pub const MAX_OBJECTS: usize = 64;
@@ -87,13 +87,13 @@ fn read_object(token: Token, depth: u8, list: &mut KeyedList<'_, Place>) -> Resu
                 start,
                 len: value.len(),
             }) {
-                Addition::Added => Ok(()),
-                Addition::Full => Err(TextFault {
+                Ok(()) => Ok(()),
+                Err(NotAdded::Full) => Err(TextFault {
                     kind: FaultKind::TooMany,
                     at,
                 }),
                 // No object before this one begins at its place.
-                Addition::AlreadyThere => unreachable(),
+                Err(NotAdded::AlreadyThere) => unreachable(),
             }
         }
         Token::Constructed { start, inside, .. } => {

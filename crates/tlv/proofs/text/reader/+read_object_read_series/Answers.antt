@@ -1,7 +1,8 @@
-use Rattle.std.proofs.Common.{◌≡◌, ℕ, ◌+◌, ◌<◌, Bool, true, false, cond, length, sym, ap, ◌∙◌, subst, arith, rules}
+use Rattle.std.proofs.Common.{◌≡◌, ℕ, ◌+◌, ◌<◌, Bool, true, false, if◌then◌else◌, Result, Ok, Err, length, sym, ap, ◌∙◌, subst, arith, rules}
 use Rattle.std.proofs.lemmas.Result.{err_from_is_err_and, IfOk-from_err}
 use Rattle.std.proofs.slice.Lists.{all_by_recursion_push}
-use Rattle.keyed.specs.declared.list.Addition.TheVariants.{Added, AlreadyThere, Full}
+use Rattle.keyed.specs.declared.list.NotAdded.{NotAdded}
+use Rattle.keyed.specs.declared.list.NotAdded.TheVariants.{AlreadyThere, Full}
 use Rattle.keyed.specs.Elements.{elements}
 use Rattle.tlv.specs.Series.{place}
 use Rattle.tlv.specs.Told.{meant}
@@ -16,7 +17,7 @@ turn : (t : ℕ) (c : read_series-In_default t) → Turn c.args.end c.loop-token
 turn t c = record { apart = c.in_default.not-End; read = c.in_ok-token.ensures }
 
 -- a key that is not there is not told to be there
-not_there : (h f : Bool) → h ≡ false → AlreadyThere ≡ cond h AlreadyThere (cond f Added Full) → ⊥
+not_there : (h f : Bool) → h ≡ false → ◌≡◌ {A = Result (Unit {0}) NotAdded} (Err AlreadyThere) (if h then Err AlreadyThere else if f then Ok tt else Err Full) → ⊥
 not_there true f n e = let z : ◌≡◌ {A = ℕ} 0 1 = cc in omega arith
 not_there false true n e = let z : ◌≡◌ {A = ℕ} 0 1 = cc in omega arith
 not_there false false n e = let z : ◌≡◌ {A = ℕ} 0 1 = cc in omega arith
@@ -24,7 +25,7 @@ not_there false false n e = let z : ◌≡◌ {A = ℕ} 0 1 = cc in omega arith
 pub read_object-unreachable-requires : goal.read_object-unreachable-requires
 read_object-unreachable-requires t c =
     let b = subst (λ k. Before (first_place (meant k)) (elements c.args.list.now)) c.in-Primitive-2.is c.requires.rising in
-    not_there _ _ (key_free (place c.in-Primitive-2.tag c.in-Primitive-2.at c.in-Primitive-2.start (length c.in-Primitive-2.value.now)) (elements c.args.list.now) b) c.in-AlreadyThere.ensures.answer
+    not_there _ _ (key_free (place c.in-Primitive-2.tag c.in-Primitive-2.at c.in-Primitive-2.start (length c.in-Primitive-2.value.now)) (elements c.args.list.now) b) (ap Err (sym c.in-Err-AlreadyThere.field-0-is) ∙ c.in-Err-AlreadyThere.ensures.answer)
 
 pub read_object-read_series-requires : goal.read_object-read_series-requires
 read_object-read_series-requires t c =
@@ -33,12 +34,12 @@ read_object-read_series-requires t c =
     let size = ap (λ k. inside_length (meant k)) c.in-Constructed.is in
     (omega arith, (omega arith, (omega arith, (omega arith, before_later c.in-Constructed.at _ _ (omega arith) b))))
 
-pub read_object-returns-in-Added : goal.read_object-returns-in-Added
-read_object-returns-in-Added t c =
+pub read_object-returns-in-Ok : goal.read_object-returns-in-Ok
+read_object-returns-in-Ok t c =
     let b = subst (λ k. Before (first_place (meant k)) (elements c.args.list.now)) c.in-Primitive-2.is c.requires.rising in
     let o = subst (λ k. Ordered (meant k)) c.in-Primitive-2.is c.requires.ordered in
     let past = c.in-Primitive-2.start + length c.in-Primitive-2.value.now in
-    let said = c.in-Added.ensures in
+    let said = c.in-Ok.ensures in
     record {
       read = search rules;
       rising =
