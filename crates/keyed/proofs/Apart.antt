@@ -9,11 +9,6 @@ contrary : (a b : Bool) → (a ≡ true → b ≡ true) → b ≡ false → a �
 contrary true b f h = sym (f refl) ∙ h
 contrary false b f h = refl
 
-both_ways : (a b : Bool) → (a ≡ true → b ≡ true) → (b ≡ true → a ≡ true) → a ≡ b
-both_ways true b f g = sym (f refl)
-both_ways false true f g = g refl
-both_ways false false f g = refl
-
 module _ {X : Type 0} (same : X → X → Bool) where
   -- where no element has the key of x, each has another
   pub other_keys : (xs : List X) (x : X) → holds same xs x ≡ false → (k : ℕ) (d : X) → k < length xs → same (get_or xs k d) x ≡ false
@@ -44,12 +39,3 @@ module _ {X : Type 0} (same : X → X → Bool) where
   pub holds_push : ((x : X) → same x x ≡ true) → (xs : List X) (x : X) → holds same (xs ++ x ∷ []) x ≡ true
   holds_push reflexive [] x = ap (λ b. b || false) (reflexive x)
   holds_push reflexive (y ∷ ys) x = ap (λ b. same y x || b) (holds_push reflexive ys x) ∙ or-true (same y x)
-
-  -- equal keys are held alike
-  module _ (symmetric : (x y : X) → same x y ≡ true → same y x ≡ true) (transitive : (x y z : X) → same x y ≡ true → same y z ≡ true → same x z ≡ true) where
-    pub holds_alike : (xs : List X) (x y : X) → same x y ≡ true → holds same xs x ≡ holds same xs y
-    holds_alike [] x y e = refl
-    holds_alike (z ∷ zs) x y e =
-        let alike : same z x ≡ same z y =
-        both_ways (same z x) (same z y) (λ h. transitive z x y h e) (λ h. transitive z y x h (symmetric x y e)) in
-        ap (λ b. b || holds same zs x) alike ∙ ap (λ b. same z y || b) (holds_alike zs x y e)

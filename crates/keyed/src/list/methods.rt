@@ -13,14 +13,6 @@ fn any_same<T: Keyed>(items: &[T], x: &T) -> bool
     items.iter().any(|y| y.same_key(x))
 }
 
-// The same, and that items with the key of `x` are looked for alike.
-fn look_for<T: Keyed>(items: &[T], x: &T) -> bool
-    ensures value { result ≡ holds (by T.key T.same) items.now x.now }
-    ensures alike { (y : T) → T.same (T.key x.now) (T.key y) ≡ true → result ≡ holds (by T.key T.same) items.now y }
-{
-    any_same(items, x)
-}
-
 // Writes `x` behind the first `n` items.
 fn put<T: Keyed + Copy>(items: &mut [T], n: usize, x: T)
     requires { n < length items.old }
@@ -66,7 +58,7 @@ impl<'a, T: Keyed> KeyedList<'a, T> {
         ensures value { result ≡ holds (by T.key T.same) (elements self.now) x.now }
         ensures alike { (y : T) → T.same (T.key x.now) (T.key y) ≡ true → result ≡ holds (by T.key T.same) (elements self.now) y }
     {
-        look_for(self.as_slice(), x)
+        any_same(self.as_slice(), x)
     }
 }
 
