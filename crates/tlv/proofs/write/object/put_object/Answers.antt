@@ -5,19 +5,6 @@ use Rattle.tlv.specs.Written.{head_bytes, object_bytes, at_front, ReadsBack}
 use Rattle.tlv.proofs.Writing.{answers, reads_back}
 use Rattle.tlv.proofs.write.object.put_object.Goals as goal
 
-pub returns-then-out-size : goal.returns-then-out-size
-returns-then-out-size c =
-    let v = c.args.value.now in
-    let t = c.args.tag in
-    let room = length c.args.out.now in
-    let size = c.head_of-head.result.len + length v in
-    let is : size ≡ length (object_bytes t v) = omega (arith, c.head_of-head.ensures.len, length-append (head_bytes t (length v)) v) in
-    record {
-      answer = sym (answers t room size v c.requires.tag c.requires.short is ∙ cond-true _ _ _ (lt-ltb room size c.if-out-size.true));
-      after = refl;
-      back = tt;
-    }
-
 pub returns : goal.returns
 returns c =
     let v = c.args.value.now in
