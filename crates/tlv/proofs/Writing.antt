@@ -1,13 +1,13 @@
 -- What is written is an object, and reads back as the same one.
-use Rattle.std.proofs.Common.{◌≡◌, ℕ, ◌+◌, ◌-◌, ◌*◌, ◌/◌, ◌%◌, ◌≤◌, Bool, true, false, cond, not, ◌&&◌, eqb, ltb, List, [], ◌∷◌, ◌++◌, length, get_or, drop, Ok, Err, sym, refl, ap, ◌∙◌, subst, append_assoc, arith, length-append, ltb-false, ltb-true}
-use borrow.Rule.Slice.PartMut.{put_mid}
+use Rattle.std.proofs.Common.{◌≡◌, ℕ, ◌+◌, ◌-◌, ◌*◌, ◌/◌, ◌%◌, ◌≤◌, Bool, true, false, cond, not, ◌&&◌, eqb, ltb, List, [], ◌∷◌, ◌++◌, length, get_or, drop, Ok, Err, Result, take, OnOk, OnErr, IfOk, sym, refl, ap, ◌∙◌, subst, append_assoc, arith, length-append, ltb-false, ltb-true}
 use borrow.Author.Tests.{eqb-false}
 use Rattle.std.proofs.lemmas.Bool.{le-ltb}
-use Rattle.std.proofs.lemmas.List.{take_at, drop_at, drop-drop}
+use Rattle.std.proofs.lemmas.List.{take_at}
+use Rattle.tlv.specs.declared.write.WriteRefusal.{WriteRefusal}
 use Rattle.tlv.specs.declared.write.WriteRefusal.TheVariants.{Short}
 use Rattle.tlv.specs.Objects.{marks_more, marks_constructed, bit8, object, seen, next_at}
 use Rattle.tlv.specs.Grammar.{TagBytes, one, two, three, LengthBytes, short, long}
-use Rattle.tlv.specs.Written.{is_tag, tag_bytes, length_bytes, head_bytes, object_bytes, at_front, write_answer, ReadsBack}
+use Rattle.tlv.specs.Written.{is_tag, tag_bytes, length_bytes, head_bytes, object_bytes, at_front, write_answer, write_after, ReadsBack}
 use Rattle.tlv.proofs.Steps.{by_cond}
 use Rattle.tlv.proofs.Accepts.{object_made}
 
@@ -83,17 +83,36 @@ reads_back t v h rest =
     ∙ object_made 0 (length (tb ++ (lb ++ (v ++ rest)))) v rest tags.bytes (length_made (length v)) tags.some (omega arith)
     ∙ ap (λ s. seen (object (marks_constructed (get_or tb 0 0)) t 0 s v) rest) (sym start)
 
--- a head and a value, written one after the other
-pub joined : (out h v hs vs : List ℕ) → hs ≡ h → vs ≡ v → put_mid (length h) (length h + length v - length h) (hs ++ drop (length h - 0) out) vs ≡ at_front (h ++ v) out
-joined out h v hs vs hs-is vs-is =
-    let n : length h - 0 ≡ length h = omega arith in
-    let m : length h + length v - length h ≡ length v = omega arith in
-    let whole : length h + length v ≡ length (h ++ v) = sym (length-append h v) in
-    ap (λ xs. put_mid (length h) (length h + length v - length h) (xs ++ drop (length h - 0) out) vs) hs-is
-    ∙ ap (put_mid (length h) (length h + length v - length h) (h ++ drop (length h - 0) out)) vs-is
-    ∙ rw (n, m, take_at h (drop (length h) out) (length h) refl, drop_at h (drop (length h) out) (length h) refl, drop-drop (length v) (length h) out, whole)
-    (sym (append_assoc h v (drop (length (h ++ v)) out)))
-
 -- what writing answers, where tag and value can be written
 pub answers : (t room size : ℕ) (v : List ℕ) → is_tag t ≡ true → length v ≤ 255 → size ≡ length (object_bytes t v) → write_answer t v room ≡ cond (ltb room size) (Err Short) (Ok size)
 answers t room size v tag few is = rw (tag, le-ltb 255 (length v) few, is)
+
+-- what an answer and the buffer after it say of a written object
+pub record Put (t : ℕ) (v out left : List ℕ) (r : Result ℕ WriteRefusal) : Type 0 where
+  pub answer : r ≡ write_answer t v (length out)
+  pub after : left ≡ write_after r t v out
+  pub back : IfOk r (λ n. ReadsBack t v (take n left))
+
+-- the bytes of the object are put to the buffer's front, or the buffer is short of them
+put_bytes : (t : ℕ) (v out left : List ℕ) (b : Bool) (r : Result ℕ WriteRefusal) → is_tag t ≡ true → length v ≤ 255 → ltb (length out) (length (object_bytes t v)) ≡ b
+    → r ≡ cond b (Err Short) (Ok (length (object_bytes t v))) → OnOk r (left ≡ at_front (object_bytes t v) out) → OnErr r (left ≡ out) → Put t v out left r
+put_bytes t v out left true (Ok n) tag few l e put kept = let z : ◌≡◌ {A = ℕ} 0 1 = cc in absurd (omega arith)
+put_bytes t v out left false (Err f) tag few l e put kept = let z : ◌≡◌ {A = ℕ} 0 1 = cc in absurd (omega arith)
+put_bytes t v out left true (Err f) tag few l e put kept =
+    record { answer = e ∙ sym (answers t (length out) _ v tag few refl ∙ ap (λ b. cond b (Err Short) (Ok (length (object_bytes t v)))) l); after = kept; back = tt }
+put_bytes t v out left false (Ok n) tag few l e put kept =
+    let n-is : n ≡ length (object_bytes t v) = cc in
+    let front : take n left ≡ object_bytes t v = ap (take n) put ∙ take_at (object_bytes t v) (drop (length (object_bytes t v)) out) n (sym n-is) in
+    record {
+      answer = e ∙ sym (answers t (length out) _ v tag few refl ∙ ap (λ b. cond b (Err Short) (Ok (length (object_bytes t v)))) l);
+      after = put;
+      back = subst (ReadsBack t v) (sym front) (reads_back t v tag);
+    }
+
+pub put_parts : (t : ℕ) (xs ys v out left : List ℕ) (r : Result ℕ WriteRefusal) → is_tag t ≡ true → length v ≤ 255 → xs ≡ tag_bytes t → ys ≡ length_bytes (length v)
+    → r ≡ cond (ltb (length out) (length ((xs ++ ys) ++ v))) (Err Short) (Ok (length ((xs ++ ys) ++ v))) → OnOk r (left ≡ at_front ((xs ++ ys) ++ v) out) → OnErr r (left ≡ out) → Put t v out left r
+unfolding head_bytes
+put_parts t xs ys v out left r tag few a b =
+    let is : (xs ++ ys) ++ v ≡ object_bytes t v = ap (λ zs. (zs ++ ys) ++ v) a ∙ ap (λ zs. (tag_bytes t ++ zs) ++ v) b in
+    subst (λ bs. r ≡ cond (ltb (length out) (length bs)) (Err Short) (Ok (length bs)) → OnOk r (left ≡ at_front bs out) → OnErr r (left ≡ out) → Put t v out left r) (sym is)
+    (λ e put kept. put_bytes t v out left _ r tag few refl e put kept)

@@ -1,6 +1,8 @@
 // Writes objects.
-ghost use Rattle.std.specs.Prelude.{◌≡◌, ◌+◌, ◌<◌, ◌≤◌, true, ◌++◌, length, take, IfOk};
-ghost use Rattle.tlv.specs.Written.{is_tag, head_bytes, object_bytes, at_front, write_answer, write_after, ReadsBack};
+ghost use Rattle.std.specs.Prelude.{◌≡◌, ◌<◌, ◌≤◌, true, ◌++◌, length, take, drop, if◌then◌else◌, nat_lt, IfOk, OnOk, OnErr, Ok, Err};
+ghost use Rattle.std.specs.Int.{to_be_bytes, w32};
+ghost use Rattle.tlv.specs.declared.write.WriteRefusal.TheVariants.{Short};
+ghost use Rattle.tlv.specs.Written.{is_tag, tag_bytes, at_front, write_answer, write_after, ReadsBack};
 
 use super::WriteRefusal;
 
@@ -21,66 +23,38 @@ fn is_tag(tag: u32) -> bool
         && tag % 0x100 < 0x80
 }
 
-// The bytes before an object's value: its tag and its length.
-#[derive(Clone, Copy)]
-struct Head {
-    bytes: [u8; 5],
-    len: usize,
-}
-
-fn head_of(tag: u32, n: u8) -> Head
+// The place of a tag's first byte among the four bytes of its number.
+fn first_place(tag: u32) -> usize
     requires { tag < 16777216 }
-    ensures bytes { take result.len result.bytes ≡ head_bytes tag n }
-    ensures len { result.len ≡ length (head_bytes tag n) }
-    ensures small { result.len ≤ 5 }
+    ensures place { drop result (to_be_bytes w32 tag) ≡ tag_bytes tag }
+    ensures within { (1 ≤ result) × (result ≤ 3) }
 {
-    let a = (tag / 0x1_0000) as u8;
-    let b = (tag / 0x100 % 0x100) as u8;
-    let c = (tag % 0x100) as u8;
-    if n < 0x80 {
-        if tag < 0x100 {
-            Head {
-                bytes: [c, n, 0, 0, 0],
-                len: 2,
-            }
-        } else if tag < 0x1_0000 {
-            Head {
-                bytes: [b, c, n, 0, 0],
-                len: 3,
-            }
-        } else {
-            Head {
-                bytes: [a, b, c, n, 0],
-                len: 4,
-            }
-        }
-    } else if tag < 0x100 {
-        Head {
-            bytes: [c, 0x81, n, 0, 0],
-            len: 3,
-        }
+    if tag < 0x100 {
+        3
     } else if tag < 0x1_0000 {
-        Head {
-            bytes: [b, c, 0x81, n, 0],
-            len: 4,
-        }
+        2
     } else {
-        Head {
-            bytes: [a, b, c, 0x81, n],
-            len: 5,
-        }
+        1
     }
 }
 
-// Writes the head and then the value to the buffer's front.
-fn put_front(out: &mut [u8], head: &[u8], value: &[u8])
-    requires { length head.now + length value.now ≤ length out.old }
-    ensures { out.new ≡ at_front (head.now ++ value.now) out.old }
+// Writes the bytes of a tag, of a length and of a value to the buffer's front, unless the buffer is short; how many they
+// are.
+fn put_front(tag: &[u8], len: &[u8], value: &[u8], out: &mut [u8]) -> Result<usize, WriteRefusal>
+    requires { (length tag.now ≤ 3) × (length len.now ≤ 2) × (length value.now ≤ 255) }
+    ensures answer { result ≡ if nat_lt (length out.old) (length ((tag.now ++ len.now) ++ value.now)) then Err Short else Ok (length ((tag.now ++ len.now) ++ value.now)) }
+    ensures written { OnOk result (out.new ≡ at_front ((tag.now ++ len.now) ++ value.now) out.old) }
+    ensures refused { OnErr result (out.new ≡ out.old) }
 {
-    let n = head.len();
-    let end = n + value.len();
-    out[0..n].copy_from_slice(head);
-    out[n..end].copy_from_slice(value);
+    let head = tag.len() + len.len();
+    let size = head + value.len();
+    if out.len() < size {
+        return Err(WriteRefusal::Short);
+    }
+    out[0..tag.len()].copy_from_slice(tag);
+    out[tag.len()..head].copy_from_slice(len);
+    out[head..size].copy_from_slice(value);
+    Ok(size)
 }
 
 // Writes an object to the buffer's front, unless the buffer is short.
@@ -92,14 +66,14 @@ fn put_object(tag: u32, value: &[u8], out: &mut [u8]) -> Result<usize, WriteRefu
     ensures after { out.new ≡ write_after result tag value.now out.old }
     ensures back { IfOk result (λ n. ReadsBack tag value.now (take n out.new)) }
 {
-    let head = head_of(tag, value.len() as u8);
-    let n = head.len;
-    let size = n + value.len();
-    if out.len() < size {
-        return Err(WriteRefusal::Short);
+    let bytes = tag.to_be_bytes();
+    let tag_bytes = &bytes[first_place(tag)..];
+    let n = value.len() as u8;
+    if n < 0x80 {
+        put_front(tag_bytes, &[n], value, out)
+    } else {
+        put_front(tag_bytes, &[0x81, n], value, out)
     }
-    put_front(out, &head.bytes[0..n], value);
-    Ok(size)
 }
 
 // Writes an object to the buffer's front, the rest unchanged; how many bytes it has.
