@@ -1,12 +1,11 @@
 -- Adding the records of a locator one after the other. Assumes nothing.
-use Rattle.std.proofs.Common.{◌≡◌, ℕ, suc, ◌+◌, ◌-◌, ◌/◌, ◌<◌, ◌≤◌, Bool, true, false, cond, List, [], ◌∷◌, ◌++◌, length, get_or, take, drop, is_err, Some, None, Ok, Err, Option, Result, sym, refl, ap, ◌∙◌, arith}
+use Rattle.std.proofs.Common.{◌≡◌, ℕ, suc, ◌+◌, ◌-◌, ◌/◌, ◌<◌, ◌≤◌, Bool, true, false, cond, List, [], ◌∷◌, ◌++◌, length, get_or, take, drop, is_ok, is_err, Some, None, Ok, Err, Option, Result, sym, refl, ap, ◌∙◌, arith}
 use Rattle.keyed.specs.declared.record.Record.{Record}
-use Rattle.keyed.specs.declared.list.Addition.{Addition}
-use Rattle.keyed.specs.declared.list.Addition.TheVariants.{Added, AlreadyThere, Full}
+use Rattle.keyed.specs.declared.list.NotAdded.{NotAdded}
 use Rattle.keyed.specs.Elements.{answer}
 use Rattle.keyed.specs.Records.{record_same}
 use Rattle.std.proofs.lemmas.List.{take_rest}
-use Rattle.std.proofs.lemmas.Bool.{false≢true}
+use Rattle.std.proofs.lemmas.Bool.{false≢true, true≢false}
 use Rattle.afl.specs.declared.locator.Span.{Span}
 use Rattle.afl.specs.declared.locator.AflFault.{AflFault}
 use Rattle.afl.specs.Afl.{good, record_at, run}
@@ -16,16 +15,15 @@ module _ (room : ℕ) (held : List Record) (s n e : ℕ) (h : n < e) where
   step : gather room held (run s n (e - n)) ≡ on_added (answer record_same room held (record_at s n)) (gather room (held ++ record_at s n ∷ []) (run s (n + 1) (e - (n + 1))))
   step = let k : e - n ≡ suc (e - (n + 1)) = omega arith in ap (λ x. gather room held (run s n x)) k
 
-  pub added : answer record_same room held (record_at s n) ≡ Added → gather room (held ++ record_at s n ∷ []) (run s (n + 1) (e - (n + 1))) ≡ gather room held (run s n (e - n))
+  pub added : answer record_same room held (record_at s n) ≡ Ok tt → gather room (held ++ record_at s n ∷ []) (run s (n + 1) (e - (n + 1))) ≡ gather room held (run s n (e - n))
   added a = sym (step ∙ ap (λ x. on_added x (gather room (held ++ record_at s n ∷ []) (run s (n + 1) (e - (n + 1))))) a)
 
-  pub stopped : (answer record_same room held (record_at s n) ≡ Added → ⊥) → None ≡ gather room held (run s n (e - n))
+  pub stopped : is_err (answer record_same room held (record_at s n)) ≡ true → None ≡ gather room held (run s n (e - n))
   stopped ne = sym (step ∙ by (answer record_same room held (record_at s n)) ne)
     where
-      by : (a : Addition) → (a ≡ Added → ⊥) → on_added a (gather room (held ++ record_at s n ∷ []) (run s (n + 1) (e - (n + 1)))) ≡ None
-      by Added f = absurd (f refl)
-      by AlreadyThere f = refl
-      by Full f = refl
+      by : (a : Result (Unit {0}) NotAdded) → (is_err a ≡ true) → on_added a (gather room (held ++ record_at s n ∷ []) (run s (n + 1) (e - (n + 1)))) ≡ None
+      by (Ok _) f = absurd (false≢true f)
+      by (Err _) f = refl
 
 pub ended : (room : ℕ) (held : List Record) (s n e : ℕ) → e ≤ n → Some held ≡ gather room held (run s n (e - n))
 ended room held s n e h = let k : e - n ≡ 0 = omega arith in sym (ap (λ x. gather room held (run s n x)) k)
@@ -76,3 +74,12 @@ err_told (Err b) xs e = refl
 
 pub some_of : (xs ys : List Record) (o : Option (List Record)) → xs ≡ ys → Some ys ≡ o → Some xs ≡ o
 some_of xs ys o e f = ap Some e ∙ f
+
+-- whether a record was added, by what is told of it
+pub was_added : (r : Result (Unit {0}) NotAdded) → is_ok r ≡ true → r ≡ Ok tt
+was_added (Ok x) e = refl
+was_added (Err f) e = absurd (false≢true e)
+
+pub not_added : (r : Result (Unit {0}) NotAdded) → is_ok r ≡ false → is_err r ≡ true
+not_added (Ok x) e = absurd (true≢false e)
+not_added (Err f) e = refl

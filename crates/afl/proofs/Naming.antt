@@ -1,10 +1,10 @@
 -- Records added one after the other are those that the locator names, each once. Assumes nothing.
-use Rattle.std.proofs.Common.{◌≡◌, ℕ, zero, suc, ◌+◌, ◌-◌, ◌/◌, ◌<◌, ◌≤◌, Bool, true, false, cond, not, ◌&&◌, eqb, ltb, leb, List, [], ◌∷◌, ◌++◌, length, get_or, Some, None, Option, sym, refl, ap, ◌∙◌, subst, arith}
+use Rattle.std.proofs.Common.{◌≡◌, ℕ, zero, suc, ◌+◌, ◌-◌, ◌/◌, ◌<◌, ◌≤◌, Bool, true, false, cond, not, ◌&&◌, ◌||◌, eqb, ltb, leb, List, [], ◌∷◌, ◌++◌, length, get_or, Some, None, Ok, Err, Option, sym, refl, ap, ◌∙◌, subst, arith}
 use Rattle.std.proofs.lemmas.List.{append-nil, append_assoc, length-append, length_push, get_or_append_left, get_or_at}
 use Rattle.std.proofs.lemmas.Bool.{false≢true, true≢false, ltb-true, ltb-false, eqb-true, eq-eqb, and_parts, and_from, not-true, leb-true, le-leb, cond-true}
 use Rattle.keyed.specs.declared.record.Record.{Record}
-use Rattle.keyed.specs.declared.list.Addition.TheVariants.{Added, AlreadyThere, Full}
-use Rattle.keyed.specs.Keys.{or, both, holds, Distinct}
+use Rattle.keyed.specs.declared.list.NotAdded.TheVariants.{AlreadyThere, Full}
+use Rattle.keyed.specs.Keys.{holds, Distinct}
 use Rattle.keyed.specs.Records.{record_same}
 use Rattle.keyed.proofs.Apart.{distinct_push, other_keys}
 use Rattle.afl.specs.Afl.{good, run, well_made, named, distinct, accepted, records_of}
@@ -13,9 +13,9 @@ use Rattle.afl.specs.Steps.{on_added, gather, then, afl_from}
 symmetric : (x y : Record) → record_same x y ≡ true → record_same y x ≡ true
 symmetric x y h = by (eqb x.sfi y.sfi) refl h
   where
-    by : (b : Bool) → eqb x.sfi y.sfi ≡ b → both b (eqb x.number y.number) ≡ true → record_same y x ≡ true
+    by : (b : Bool) → eqb x.sfi y.sfi ≡ b → (b && eqb x.number y.number) ≡ true → record_same y x ≡ true
     by true e q =
-        ap (λ c. both c (eqb y.number x.number)) (eq-eqb y.sfi x.sfi (sym (eqb-true x.sfi y.sfi e)))
+        ap (λ c. c && eqb y.number x.number) (eq-eqb y.sfi x.sfi (sym (eqb-true x.sfi y.sfi e)))
         ∙ eq-eqb y.number x.number (sym (eqb-true x.number y.number q))
     by false e q = absurd (false≢true q)
 
@@ -28,7 +28,7 @@ found : (xs : List Record) (x : Record) → holds record_same xs x ≡ true → 
 found [] x h = absurd (false≢true h)
 found (y ∷ ys) x h = by (found ys x) (record_same y x) refl h
   where
-    by : (holds record_same ys x ≡ true → (k : ℕ) × (k < length ys) × ((d : Record) → record_same (get_or ys k d) x ≡ true)) → (b : Bool) → record_same y x ≡ b → or b (holds record_same ys x) ≡ true → (k : ℕ) × (k < length (y ∷ ys)) × ((d : Record) → record_same (get_or (y ∷ ys) k d) x ≡ true)
+    by : (holds record_same ys x ≡ true → (k : ℕ) × (k < length ys) × ((d : Record) → record_same (get_or ys k d) x ≡ true)) → (b : Bool) → record_same y x ≡ b → (b || holds record_same ys x) ≡ true → (k : ℕ) × (k < length (y ∷ ys)) × ((d : Record) → record_same (get_or (y ∷ ys) k d) x ≡ true)
     by again true e q = (0, omega arith, λ d. e)
     by again false e q = let r = again q in (suc r.0, omega (arith, r.1), λ d. r.2 d)
 
@@ -42,7 +42,7 @@ clash xs zs x h apart =
     true≢false (sym (r.2 x) ∙ ap (λ y. record_same y x) (sym a) ∙ ap (record_same (get_or (xs ++ x ∷ zs) r.0 x)) (sym b) ∙ no-two)
 
 -- what adding one record answers
-ways : (h l : Bool) (next : Option (List Record)) (xs : List Record) → on_added (cond h AlreadyThere (cond l Added Full)) next ≡ Some xs → (h ≡ false) × (l ≡ true) × (next ≡ Some xs)
+ways : (h l : Bool) (next : Option (List Record)) (xs : List Record) → on_added (cond h (Err AlreadyThere) (cond l (Ok tt) (Err Full))) next ≡ Some xs → (h ≡ false) × (l ≡ true) × (next ≡ Some xs)
 ways true l next xs e = let z : ◌≡◌ {A = ℕ} 0 1 = cc in absurd (omega arith)
 ways false true next xs e = (refl, refl, e)
 ways false false next xs e = let z : ◌≡◌ {A = ℕ} 0 1 = cc in absurd (omega arith)
@@ -71,7 +71,7 @@ module _ (room : ℕ) where
       same : (held ++ r ∷ []) ++ (rs ++ more) ≡ held ++ (r ∷ (rs ++ more))
       same = append_assoc held (r ∷ []) (rs ++ more)
 
-      by : (gather room (held ++ r ∷ []) rs ≡ None → length ((held ++ r ∷ []) ++ (rs ++ more)) ≤ room → Distinct record_same ((held ++ r ∷ []) ++ (rs ++ more)) → ⊥) → (h b : Bool) → holds record_same held r ≡ h → ltb (length held) room ≡ b → on_added (cond h AlreadyThere (cond b Added Full)) (gather room (held ++ r ∷ []) rs) ≡ None → ⊥
+      by : (gather room (held ++ r ∷ []) rs ≡ None → length ((held ++ r ∷ []) ++ (rs ++ more)) ≤ room → Distinct record_same ((held ++ r ∷ []) ++ (rs ++ more)) → ⊥) → (h b : Bool) → holds record_same held r ≡ h → ltb (length held) room ≡ b → on_added (cond h (Err AlreadyThere) (cond b (Ok tt) (Err Full))) (gather room (held ++ r ∷ []) rs) ≡ None → ⊥
       by again true b p q f = clash held (rs ++ more) r p apart
       by again false true p q f =
           let D : List Record → Type 0 = λ ys. Distinct record_same ys in

@@ -1,23 +1,19 @@
 -- Each record that an accepted AFL names stands once in its list, in a file of SFI 1 to 30.
-use Rattle.std.proofs.Common.{◌≡◌, ℕ, zero, suc, ◌+◌, ◌-◌, ◌*◌, ◌/◌, ◌%◌, ◌<◌, ◌≤◌, Bool, true, false, cond, not, ◌&&◌, eqb, ltb, leb, List, [], ◌∷◌, ◌++◌, sym, refl, ap, ◌∙◌, subst, ⊎_elim, arith}
+use Rattle.std.proofs.Common.{◌≡◌, ℕ, zero, suc, ◌+◌, ◌-◌, ◌*◌, ◌/◌, ◌%◌, ◌<◌, ◌≤◌, Bool, true, false, cond, not, ◌&&◌, ◌||◌, eqb, ltb, leb, List, [], ◌∷◌, ◌++◌, sym, refl, ap, ◌∙◌, subst, ⊎_elim, arith}
 use Rattle.std.specs.List.{AllByRecursion}
 use Rattle.std.proofs.ByRecursion.{All-append}
 use Rattle.std.proofs.lemmas.Bool.{false≢true, true≢false, eqb-true, eq-eqb, leb-true, and_parts, and_from, or_cases, or_parts, not-true, le-leb, cond-true, cases_eq}
 use Rattle.keyed.specs.declared.record.Record.{Record}
-use Rattle.keyed.specs.Keys.{or, both, holds}
+use Rattle.keyed.specs.Keys.{holds}
 use Rattle.keyed.specs.Records.{record_same}
 use Rattle.afl.specs.Afl.{good, record_at, run, well_made, named, distinct}
 use Rattle.afl.specs.Laws.{within, names, times, EachOnce, Files}
 use Rattle.afl.proofs.Naming.{accepted_is}
 
-both_parts : (a b : Bool) → both a b ≡ true → (a ≡ true) × (b ≡ true)
-both_parts true b h = (refl, h)
-both_parts false b h = absurd (false≢true h)
-
 -- the same record is one record
 same_record : (r x : Record) → record_same r x ≡ true → r ≡ x
 same_record r x h =
-    let parts = both_parts (eqb r.sfi x.sfi) (eqb r.number x.number) h in
+    let parts = and_parts (eqb r.sfi x.sfi) (eqb r.number x.number) h in
     ap (λ s. record_at s r.number) (eqb-true r.sfi x.sfi parts.0) ∙ ap (record_at x.sfi) (eqb-true r.number x.number parts.1)
 
 module _ (x : Record) where
@@ -29,7 +25,7 @@ module _ (x : Record) where
   not_held [] h = refl
   not_held (r ∷ rs) h = by (not_held rs) (record_same r x) h
     where
-      by : (holds record_same rs x ≡ false → times x rs ≡ 0) → (b : Bool) → or b (holds record_same rs x) ≡ false → cond b 1 0 + times x rs ≡ 0
+      by : (holds record_same rs x ≡ false → times x rs ≡ 0) → (b : Bool) → (b || holds record_same rs x) ≡ false → cond b 1 0 + times x rs ≡ 0
       by again true q = absurd (true≢false q)
       by again false q = let none = again q in omega (arith, none)
 
@@ -56,7 +52,7 @@ module _ (x : Record) where
 
   here_one : (s n : ℕ) → x.sfi ≡ s → x.number ≡ n → here s n ≡ 1
   here_one s n e f =
-      let same : record_same (record_at s n) x ≡ true = ap (λ b. both b (eqb n x.number)) (eq-eqb s x.sfi (sym e)) ∙ eq-eqb n x.number (sym f) in
+      let same : record_same (record_at s n) x ≡ true = ap (λ b. b && eqb n x.number) (eq-eqb s x.sfi (sym e)) ∙ eq-eqb n x.number (sym f) in
       cond-true (record_same (record_at s n) x) 1 0 same
 
   here_none : (s n : ℕ) → (x.sfi ≡ s → x.number ≡ n → ⊥) → here s n ≡ 0

@@ -1,8 +1,7 @@
 -- An AFL read entry by entry into a list that takes each record once.
 use Rattle.std.specs.Prelude.{ℕ, ◌+◌, ◌-◌, ◌/◌, cond, List, [], ◌∷◌, ◌++◌, Some, None, Ok, Err, Option, Result}
 use Rattle.keyed.specs.declared.record.Record.{Record}
-use Rattle.keyed.specs.declared.list.Addition.{Addition}
-use Rattle.keyed.specs.declared.list.Addition.TheVariants.{Added, AlreadyThere, Full}
+use Rattle.keyed.specs.declared.list.NotAdded.{NotAdded}
 use Rattle.keyed.specs.Elements.{answer}
 use Rattle.keyed.specs.Records.{record_same}
 use Rattle.afl.specs.declared.locator.Span.{Span}
@@ -15,10 +14,9 @@ span_of f a z n = cond (good f a z n) (Some (record { sfi = f / 8; first = a; la
 abbrev pub run_of : Span → List Record
 run_of p = run p.sfi p.first (p.last + 1 - p.first)
 
-abbrev pub on_added : Addition → Option (List Record) → Option (List Record)
-on_added Added next = next
-on_added AlreadyThere next = None
-on_added Full next = None
+abbrev pub on_added : Result (Unit {0}) NotAdded → Option (List Record) → Option (List Record)
+on_added (Ok _) next = next
+on_added (Err _) next = None
 
 -- the list once each of the records has been added; none where one is there already or there is no room
 abbrev pub gather : ℕ → List Record → List Record → Option (List Record)

@@ -1,19 +1,20 @@
 // Reading an AFL.
 ghost use Rattle.std.specs.Prelude.{◌≡◌, length};
+ghost use Rattle.std.specs.Result.{result_ok};
 ghost use Rattle.keyed.specs.Elements.{elements, memory};
 ghost use Rattle.afl.specs.Afl.{records_of, counted, front};
 ghost use Rattle.afl.specs.Laws.{EachOnce, Files};
 ghost use Rattle.afl.specs.Steps.{span_of, gather, run_of, afl_from, told};
 
-use keyed::list::{Addition, KeyedList};
+use keyed::list::KeyedList;
 use keyed::record::Record;
 
 // An AFL that breaks a rule.
-#[derive(Clone, Copy)]
+#[derive(Clone, Copy, PartialEq, Eq, Debug)]
 pub struct AflFault;
 
 // The records `first` to `last` of a file.
-#[derive(Clone, Copy)]
+#[derive(Clone, Copy, PartialEq, Eq, Debug)]
 struct Span {
     sfi: u8,
     first: u8,
@@ -21,16 +22,16 @@ struct Span {
 }
 
 // What the four bytes of an entry name: SFI times 8, first record, last record, and how many of them are signed.
-fn span_of(file: u8, first: u8, last: u8, signed: u8) -> Option<Span>
-    ensures { result ≡ span_of file first last signed }
+fn span_of(file: u8, first: u8, last: u8, signed: u8) -> Result<Span, AflFault>
+    ensures { result_ok result ≡ span_of file first last signed }
 {
     if file % 8 != 0 || file < 8 || file > 240 {
-        return None;
+        return Err(AflFault);
     }
     if first == 0 || last < first || signed as usize > last as usize - first as usize + 1 {
-        return None;
+        return Err(AflFault);
     }
-    Some(Span {
+    Ok(Span {
         sfi: file / 8,
         first,
         last,
@@ -43,17 +44,12 @@ fn add_span(list: &mut KeyedList<'_, Record>, span: Span) -> Result<(), AflFault
     ensures room { length (memory list.new) ≡ length (memory list.old) }
     ensures named { list.new.items.ghost_name ≡ list.old.items.ghost_name }
 {
-    let end = span.last as usize + 1;
-    let mut number = span.first as usize;
-    while number < end {
+    for number in span.first..=span.last {
         let record = Record {
             sfi: span.sfi,
-            number: number as u8,
+            number,
         };
-        let Addition::Added = list.add(record) else {
-            return Err(AflFault);
-        };
-        number += 1;
+        list.add(record).map_err(|_| AflFault)?;
     }
     Ok(())
 }
@@ -66,13 +62,10 @@ fn add_spans(list: &mut KeyedList<'_, Record>, afl: &[u8]) -> Result<(), AflFaul
 {
     let mut rest = afl;
     while let [file, first, last, signed, after @ ..] = rest {
-        let Some(span) = span_of(*file, *first, *last, *signed) else {
-            return Err(AflFault);
-        };
-        add_span(list, span)?;
+        add_span(list, span_of(*file, *first, *last, *signed)?)?;
         rest = after;
     }
-    if rest.len() == 0 {
+    if rest.is_empty() {
         Ok(())
     } else {
         Err(AflFault)
@@ -87,8 +80,6 @@ pub fn read_afl(afl: &[u8], records: &mut [Record; 64]) -> Result<usize, AflFaul
     ensures files { Files afl.now }
 {
     let mut list = KeyedList::new(records);
-    match add_spans(&mut list, afl) {
-        Ok(()) => Ok(list.len()),
-        Err(fault) => Err(fault),
-    }
+    add_spans(&mut list, afl)?;
+    Ok(list.len())
 }

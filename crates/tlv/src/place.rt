@@ -6,7 +6,7 @@ ghost use Rattle.std.proofs.Common.{rules};
 use keyed::key::Keyed;
 
 // A primitive object of a text: its tag, the place of its first byte, and its value's place and length.
-#[derive(Clone, Copy, PartialEq, Eq, Debug)]
+#[derive(Clone, Copy, PartialEq, Eq, Debug, Default)]
 pub struct Place {
     pub tag: u32,
     pub at: usize,
