@@ -1,9 +1,9 @@
-use Rattle.std.proofs.Common.{◌≡◌, ℕ, ◌+◌, ◌-◌, ◌<◌, length, is_ok, is_err, sym, ap, ◌∙◌, arith, refl}
+use Rattle.std.proofs.Common.{◌+◌, ◌-◌, length, is_ok, is_err, sym, ap, ◌∙◌, arith}
 use Rattle.keyed.specs.Elements.{elements, memory, answer, grown}
 use Rattle.keyed.specs.Records.{record_same}
 use Rattle.afl.specs.Afl.{run, record_at}
 use Rattle.afl.specs.Steps.{gather}
-use Rattle.afl.proofs.Gathering.{added, stopped, ended, err_told, was_added, not_added}
+use Rattle.afl.proofs.Gathering.{added, stopped, err_told, was_added, not_added}
 use Rattle.afl.proofs.locator.add_span.Goals as goal
 
 pub loop-number-preserved : goal.loop-number-preserved
@@ -37,13 +37,4 @@ returns-in_err-map_err c =
           (ap is_err (ap (λ k. answer record_same k held (record_at s n)) (sym inv.1) ∙ sym said.answer) ∙ not_added c.add.result (sym c.map_err.ensures.variant ∙ ap is_ok c.in_err-map_err.was)) ∙ inv.2;
       room = said.room ∙ inv.1;
       named = said.named ∙ inv.0;
-    }
-
-pub returns : goal.returns
-returns c =
-    let inv = c.loop-number.invariant in
-    record {
-      added = ended (length (memory c.args.list.now)) (elements c.loop-number.list) c.args.span.sfi c.loop-number.number (c.args.span.last + 1) (omega arith) ∙ inv.2;
-      room = inv.1;
-      named = inv.0;
     }

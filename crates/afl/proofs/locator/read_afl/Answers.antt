@@ -1,4 +1,4 @@
-use Rattle.std.proofs.Common.{◌≡◌, ℕ, [], List, length, Some, None, Ok, Err, Option, Result, is_err, take, sym, ap, ◌∙◌, refl, true, rules}
+use Rattle.std.proofs.Common.{◌≡◌, ℕ, List, length, Some, None, Ok, Err, Result, is_err, ap, ◌∙◌, refl, true, rules}
 use Rattle.std.proofs.lemmas.Bool.{false≢true}
 use Rattle.keyed.specs.declared.record.Record.{Record}
 use Rattle.keyed.specs.Elements.{elements, memory}
