@@ -3,9 +3,9 @@ use Rattle.std.proofs.Common.{◌≡◌, ℕ, zero, suc, ◌+◌, ◌-◌, ◌<�
 use Rattle.std.proofs.lemmas.Bool.{cond-true, cond-false}
 use Rattle.std.proofs.lemmas.List.{append-nil, append_assoc, take_more, take_more_set}
 use Rattle.keyed.specs.declared.tag.Tag.{Tag}
-use Rattle.keyed.specs.declared.list.Addition.{Addition}
-use Rattle.keyed.specs.declared.list.Addition.TheVariants.{Added, AlreadyThere, Full}
-use Rattle.keyed.specs.Keys.{by, holds, or}
+use Rattle.keyed.specs.declared.list.NotAdded.{NotAdded}
+use Rattle.keyed.specs.declared.list.NotAdded.TheVariants.{AlreadyThere, Full}
+use Rattle.keyed.specs.Keys.{by, holds}
 use Rattle.keyed.specs.Elements.{answer, grown}
 use Rattle.tlv.specs.declared.fault.FaultKind.TheVariants.{TooMany}
 use Rattle.tlv.specs.declared.fault.TextFault.{TextFault}
@@ -27,24 +27,20 @@ pub numbers_length : (xs : List Tag) → length (numbers xs) ≡ length xs
 numbers_length [] = refl
 numbers_length (x ∷ xs) = ap suc (numbers_length xs)
 
-or_is : (a b : Bool) → or a b ≡ a || b
-or_is true b = refl
-or_is false b = refl
-
 pub holds_among : (xs : List Tag) (x : Tag) → holds same xs x ≡ among x.value (numbers xs)
 holds_among [] x = refl
-holds_among (y ∷ ys) x = ap (or (eqb y.value x.value)) (holds_among ys x) ∙ or_is (eqb y.value x.value) (among x.value (numbers ys))
+holds_among (y ∷ ys) x = ap (λ b. eqb y.value x.value || b) (holds_among ys x)
 
 -- what adding a tag answered
-abbrev pub Answered : Addition → List ℕ → ℕ → Type 0
-Answered Added held t = (among t held ≡ false) × (length held < 64)
-Answered AlreadyThere held t = among t held ≡ true
-Answered Full held t = (among t held ≡ false) × (64 ≤ length held)
+abbrev pub Answered : Result (Unit {0}) NotAdded → List ℕ → ℕ → Type 0
+Answered (Ok _) held t = (among t held ≡ false) × (length held < 64)
+Answered (Err AlreadyThere) held t = among t held ≡ true
+Answered (Err Full) held t = (among t held ≡ false) × (64 ≤ length held)
 
-pub answered : (a : Addition) (room : ℕ) (xs : List Tag) (x : Tag) → room ≡ 64 → a ≡ answer same room xs x → Answered a (numbers xs) x.value
+pub answered : (a : Result (Unit {0}) NotAdded) (room : ℕ) (xs : List Tag) (x : Tag) → room ≡ 64 → a ≡ answer same room xs x → Answered a (numbers xs) x.value
 answered a room xs x r e = go (holds same xs x) (ltb (length xs) room) (sym (holds_among xs x)) refl e
   where
-    go : (h l : Bool) → among x.value (numbers xs) ≡ h → ltb (length xs) room ≡ l → a ≡ cond h AlreadyThere (cond l Added Full) → Answered a (numbers xs) x.value
+    go : (h l : Bool) → among x.value (numbers xs) ≡ h → ltb (length xs) room ≡ l → a ≡ cond h (Err AlreadyThere) (cond l (Ok tt) (Err Full)) → Answered a (numbers xs) x.value
     go true l p q f = subst (λ b. Answered b (numbers xs) x.value) (sym f) p
     go false true p q f =
         let n = numbers_length xs in
@@ -117,8 +113,8 @@ pub record Went (e : ℕ) (held bs rest held' : List ℕ) : Type 0 where
   pub on : goes_on e held' rest ≡ goes_on e held bs
   pub tags : AllTags held → AllTags held'
 
-pub went : (e : ℕ) (xs ys : List Tag) (bs : List ℕ) (x : Tag) (t at : ℕ) (rest : List ℕ) (a : Addition) (room : ℕ) → want t at rest ≡ next_of e bs → x.value ≡ t → is_tag t ≡ true
-    → room ≡ 64 → a ≡ answer same room xs x → ys ≡ grown a xs x → (a ≡ Full → ⊥) → Went e (numbers xs) bs rest (numbers ys)
+pub went : (e : ℕ) (xs ys : List Tag) (bs : List ℕ) (x : Tag) (t at : ℕ) (rest : List ℕ) (a : Result (Unit {0}) NotAdded) (room : ℕ) → want t at rest ≡ next_of e bs → x.value ≡ t → is_tag t ≡ true
+    → room ≡ 64 → a ≡ answer same room xs x → ys ≡ grown a xs x → (a ≡ Err Full → ⊥) → Went e (numbers xs) bs rest (numbers ys)
 went e xs ys bs x t at rest a room q s h r is g full =
     let P : List ℕ → Type 0 = λ ns. Went e (numbers xs) bs rest ns in
     subst P (sym (ap numbers g)) (by_answer a full (answered a room xs x r is))
@@ -129,17 +125,17 @@ went e xs ys bs x t at rest a room q s h r is g full =
     i : is_tag x.value ≡ true
     i = ap is_tag s ∙ h
 
-    by_answer : (a : Addition) → (a ≡ Full → ⊥) → Answered a (numbers xs) x.value → Went e (numbers xs) bs rest (numbers (grown a xs x))
-    by_answer Added f y =
+    by_answer : (a : Result (Unit {0}) NotAdded) → (a ≡ Err Full → ⊥) → Answered a (numbers xs) x.value → Went e (numbers xs) bs rest (numbers (grown a xs x))
+    by_answer (Ok _) f y =
         let P : List ℕ → Type 0 = λ ns. Went e (numbers xs) bs rest ns in
         subst P (sym (numbers_append xs (x ∷ []))) (record { on = at_new e (numbers xs) bs x.value at rest w y.0 y.1; tags = λ ts. tags_more (numbers xs) x.value ts i })
-    by_answer AlreadyThere f y = record { on = at_repeat e (numbers xs) bs x.value at rest w y; tags = λ ts. ts }
-    by_answer Full f y = absurd (f refl)
+    by_answer (Err AlreadyThere) f y = record { on = at_repeat e (numbers xs) bs x.value at rest w y; tags = λ ts. ts }
+    by_answer (Err Full) f y = absurd (f refl)
 
 pub full_step : (e : ℕ) (xs : List Tag) (bs : List ℕ) (x : Tag) (t at : ℕ) (rest : List ℕ) (room : ℕ) → want t at rest ≡ next_of e bs → x.value ≡ t
-    → room ≡ 64 → Full ≡ answer same room xs x → Err (record { kind = TooMany; at = at }) ≡ goes_on e (numbers xs) bs
+    → room ≡ 64 → Err Full ≡ answer same room xs x → Err (record { kind = TooMany; at = at }) ≡ goes_on e (numbers xs) bs
 full_step e xs bs x t at rest room q s r is =
-    let y = answered Full room xs x r is in
+    let y = answered (Err Full) room xs x r is in
     at_full e (numbers xs) bs x.value at rest (ap (λ u. want u at rest) s ∙ q) y.0 y.1
 
 -- from the start

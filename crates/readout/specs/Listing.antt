@@ -7,7 +7,7 @@ use Rattle.tlv.specs.declared.fault.TextFault.{TextFault}
 use Rattle.tlv.specs.Objects.{TagRead, tag, broken, tag_at}
 use Rattle.tlv.specs.Written.{is_tag}
 use Rattle.readout.specs.declared.tags.Step.{Step}
-use Rattle.readout.specs.declared.tags.Step.TheVariants.{End, Filler, Want, Broken}
+use Rattle.readout.specs.declared.tags.Step.TheVariants.{Filler, Want}
 use Rattle.readout.specs.Wanted.{listed_in, different, at_most}
 
 -- what stands next in a list: its end, filler, a fault and its place, or a tag, its place and the bytes after it
@@ -28,11 +28,11 @@ next_of e [] = end
 next_of e (b ∷ bs) = cond (b == 0) (filler bs) (tagged (e - length (b ∷ bs)) (tag_at (b ∷ bs)))
 
 -- the code's steps in these words
-abbrev pub step_told : Step → Next
-step_told End = end
-step_told (Filler rest) = filler rest.now
-step_told (Want t at rest) = want t at rest.now
-step_told (Broken f) = fault f.kind f.at
+abbrev pub step_told : Result (Option Step) TextFault → Next
+step_told (Ok None) = end
+step_told (Ok (Some (Filler rest))) = filler rest.now
+step_told (Ok (Some (Want t at rest))) = want t at rest.now
+step_told (Err f) = fault f.kind f.at
 
 -- the number of a tag, of 24 bits
 pub record Whole (t : ℕ) : Type 0 where
@@ -40,11 +40,11 @@ pub record Whole (t : ℕ) : Type 0 where
   pub small : t < 16777216
 
 -- what is wanted is a tag
-abbrev pub WholeTag : Step → Type 0
-WholeTag End = Unit {0}
-WholeTag (Filler rest) = Unit {0}
-WholeTag (Want t at rest) = Whole t
-WholeTag (Broken f) = Unit {0}
+abbrev pub WholeTag : Result (Option Step) TextFault → Type 0
+WholeTag (Ok None) = Unit {0}
+WholeTag (Ok (Some (Filler rest))) = Unit {0}
+WholeTag (Ok (Some (Want t at rest))) = Whole t
+WholeTag (Err f) = Unit {0}
 
 -- the numbers of tags
 abbrev pub numbers : List Tag → List ℕ

@@ -12,7 +12,7 @@ use store::reading::ReadStore;
 use tlv::write::write_object;
 
 // What is shown for a tag that is not held: nothing, or an empty object.
-#[derive(Clone, Copy)]
+#[derive(Clone, Copy, PartialEq, Eq, Debug)]
 pub(crate) enum Absent {
     LeftOut,
     Empty,
@@ -39,10 +39,7 @@ fn object_bytes(tag: u32, value: &[u8], room: &mut [u8; 260]) -> usize
     ensures front { take result room.new ≡ bytes_of (whole tag value.now) }
     ensures small { result ≤ 260 }
 {
-    match write_object(tag, value, room) {
-        Ok(size) => size,
-        Err(_) => 0,
-    }
+    write_object(tag, value, room).unwrap_or(0)
 }
 
 // Writes the object that is shown for a tag to the front of `room`: how many bytes.
@@ -54,12 +51,10 @@ fn shown_bytes<S: ReadStore>(store: &S, absent: Absent, tag: u32, room: &mut [u8
     let mut value = [0u8; 255];
     match fetch(store, tag, &mut value) {
         Some(n) => object_bytes(tag, &value[0..n], room),
-        None => {
-            match absent {
-                Absent::LeftOut => 0,
-                Absent::Empty => object_bytes(tag, &value[0..0], room),
-            }
-        }
+        None => match absent {
+            Absent::LeftOut => 0,
+            Absent::Empty => object_bytes(tag, &[], room),
+        },
     }
 }
 
@@ -101,11 +96,7 @@ fn sizes_of<S: ReadStore>(store: &S, absent: Absent, tags: &[u32]) -> usize
     ensures value { result ≡ length (bytes_of (objects_at absent tags.now (S.held store.now))) }
     ensures only { OnlyAt absent tags.now }
 {
-    let mut all = 0;
-    for tag in tags {
-        all += size_of(store, absent, *tag);
-    }
-    all
+    tags.iter().map(|tag| size_of(store, absent, *tag)).sum()
 }
 
 // Writes the objects that are shown for tags to the buffer's front.

@@ -4,7 +4,7 @@ ghost use Rattle.readout.specs.Refusals.{refusal_number, refusal_kind, refusal_p
 
 use tlv::fault::TextFault;
 
-#[derive(Clone, Copy)]
+#[derive(Clone, Copy, PartialEq, Eq, Debug)]
 pub enum ReadoutRefusal {
     // The work list or the buffer is too short.
     Short,
@@ -31,7 +31,7 @@ impl ReadoutRefusal {
         ensures { result ≡ refusal_kind self }
     {
         match self {
-            ReadoutRefusal::Fault(fault) => fault.kind.number(),
+            ReadoutRefusal::Fault(fault) => u8::from(fault.kind),
             _ => 0,
         }
     }

@@ -5,37 +5,32 @@ ghost use Rattle.readout.specs.Shown.{AllTags};
 ghost use Rattle.readout.specs.Listing.{next_of, step_told, WholeTag, numbers, Stepped, goes_on, told, told_in};
 ghost use Rattle.readout.specs.Wanted.{wanted_tags};
 
-use keyed::list::{Addition, KeyedList};
+use keyed::list::{KeyedList, NotAdded};
 use keyed::tag::Tag;
 use tlv::fault::{FaultKind, TextFault};
 use tlv::token::read_tag;
 
-// What stands next in a list: its end, filler and the bytes after it, a tag with its place and the bytes after it, or
-// a fault.
+// What stands next in a list: filler and the bytes after it, or a tag with its place and the bytes after it.
 #[derive(Clone, Copy)]
 enum Step<'a> {
-    End,
     Filler(&'a [u8]),
     Want(u32, usize, &'a [u8]),
-    Broken(TextFault),
 }
 
-// What stands next in a list that ends just before the place `end`.
-fn next_step(text: &[u8], end: usize) -> Step<'_>
+// What stands next in a list that ends just before the place `end`; none at its end.
+fn next_step(text: &[u8], end: usize) -> Result<Option<Step<'_>>, TextFault>
     ensures value { step_told result ≡ next_of end text.now }
     ensures whole { WholeTag result }
 {
     let [first, after @ ..] = text else {
-        return Step::End;
+        return Ok(None);
     };
     if *first == 0 {
-        return Step::Filler(after);
+        return Ok(Some(Step::Filler(after)));
     }
     let at = end.saturating_sub(text.len());
-    match read_tag(text) {
-        Err(kind) => Step::Broken(TextFault { kind, at }),
-        Ok((tag, rest)) => Step::Want(tag, at, rest),
-    }
+    let (tag, rest) = read_tag(text).map_err(|kind| TextFault { kind, at })?;
+    Ok(Some(Step::Want(tag, at, rest)))
 }
 
 // Takes the next tag into the list: the bytes after it, none at the end.
@@ -50,22 +45,20 @@ fn take_step<'a>(
     ensures room { length (memory list.new) ≡ length (memory list.old) }
     ensures named { list.new.items.ghost_name ≡ list.old.items.ghost_name }
 {
-    match next_step(text, end) {
-        Step::End => Ok(None),
-        Step::Filler(after) => Ok(Some(after)),
-        Step::Broken(fault) => Err(fault),
-        Step::Want(number, at, after) => {
+    match next_step(text, end)? {
+        None => Ok(None),
+        Some(Step::Filler(after)) => Ok(Some(after)),
+        Some(Step::Want(number, at, after)) => {
             let Some(tag) = Tag::new(number) else {
                 unreachable()
             };
             match list.add(tag) {
-                Addition::Full => {
-                    Err(TextFault {
-                        kind: FaultKind::TooMany,
-                        at,
-                    })
-                }
-                _ => Ok(Some(after)),
+                Err(NotAdded::Full) => Err(TextFault {
+                    kind: FaultKind::TooMany,
+                    at,
+                }),
+                Err(NotAdded::AlreadyThere) => Ok(Some(after)),
+                Ok(()) => Ok(Some(after)),
             }
         }
     }
@@ -81,13 +74,10 @@ fn take_tags(list: &mut KeyedList<'_, Tag>, text: &[u8]) -> Result<(), TextFault
 {
     let end = text.len();
     let mut rest = text;
-    loop {
-        match take_step(list, rest, end) {
-            Ok(None) => return Ok(()),
-            Ok(Some(after)) => rest = after,
-            Err(fault) => return Err(fault),
-        }
+    while let Some(after) = take_step(list, rest, end)? {
+        rest = after;
     }
+    Ok(())
 }
 
 // Copies the numbers of tags to the front of an array.
@@ -95,8 +85,8 @@ fn copy_numbers(tags: &[Tag], out: &mut [u32; 64])
     requires { length tags.now ≤ 64 }
     ensures { take (length tags.now) out.new ≡ numbers tags.now }
 {
-    for i in 0..tags.len() {
-        out[i] = tags[i].number();
+    for (i, tag) in tags.iter().enumerate() {
+        out[i] = tag.number();
     }
 }
 
@@ -112,11 +102,7 @@ pub(crate) fn read_tags(
     ensures few { IfOk result (λ n. n ≤ 64) }
 {
     let mut list = KeyedList::new(memory);
-    match take_tags(&mut list, text) {
-        Ok(()) => {
-            copy_numbers(list.as_slice(), out);
-            Ok(list.len())
-        }
-        Err(fault) => Err(fault),
-    }
+    take_tags(&mut list, text)?;
+    copy_numbers(list.as_slice(), out);
+    Ok(list.len())
 }

@@ -24,10 +24,8 @@ fn listed_tags<S: ReadStore>(
     ensures few { IfOk result (λ n. n ≤ 64) }
 {
     let mut value = [0u8; 255];
-    match fetch(store, 0xDF_8112, &mut value) {
-        Some(n) => read_tags(&value[0..n], list, tags),
-        None => read_tags(&value[0..0], list, tags),
-    }
+    let n = fetch(store, 0xDF_8112, &mut value).unwrap_or(0);
+    read_tags(&value[0..n], list, tags)
 }
 
 // Writes the wanted objects, with a work list of 64 tags.
@@ -44,10 +42,8 @@ fn write_listed<S: ReadStore>(
     ensures once { OnOk result (EachOnce (value_of (S.held store.now 0xDF_8112))) }
 {
     let mut tags = [0u32; 64];
-    match listed_tags(store, list, &mut tags) {
-        Ok(n) => write_objects(store, Absent::Empty, &tags[0..n], out),
-        Err(fault) => Err(ReadoutRefusal::Fault(fault)),
-    }
+    let n = listed_tags(store, list, &mut tags).map_err(ReadoutRefusal::Fault)?;
+    write_objects(store, Absent::Empty, &tags[0..n], out)
 }
 
 // Writes, for each tag of the held list of wanted objects (DF8112), the held object, or the tag and '00', to the

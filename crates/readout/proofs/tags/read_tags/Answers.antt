@@ -1,32 +1,20 @@
 use Rattle.std.proofs.Common.{length, Ok, sym, ap, ◌∙◌, subst, arith}
+use Rattle.std.proofs.lemmas.Result.{err_from_is_err_and}
 use Rattle.keyed.specs.Elements.{elements, memory}
 use Rattle.readout.specs.Shown.{AllTags}
 use Rattle.readout.specs.Listing.{numbers, goes_on}
-use Rattle.readout.proofs.Taking.{start, front_is, take_within}
+use Rattle.readout.proofs.Taking.{start, front_is}
 use Rattle.readout.proofs.tags.read_tags.Goals as goal
 
-pub copy_numbers-requires : goal.copy_numbers-requires
-copy_numbers-requires c =
-    let l = c.take_tags.new.list in
-    omega (arith, ap length c.as_slice.ensures, take_within l.len (memory l), c.in-Ok.ensures.room, ap length c.new-list.ensures.memory, c.requires)
-
-pub returns-in-Ok : goal.returns-in-Ok
-returns-in-Ok c =
+pub returns-clause-value : goal.returns-clause-value
+returns-clause-value c =
     let l = c.take_tags.new.list in
     let v = c.args.text.now in
-    let none = c.new-list.ensures.elements in
     let f = front_is c.len.result (elements l) c.as_slice.result.now c.copy_numbers.new.out c.as_slice.ensures c.copy_numbers.ensures c.len.ensures.value in
-    record {
-      value = ap Ok f ∙ c.in-Ok.ensures.taken ∙ ap (λ xs. goes_on (length v) (numbers xs) v) none ∙ start v;
-      tags = subst AllTags (sym f) (c.in-Ok.ensures.tags (subst AllTags (sym (ap numbers none)) tt));
-      few = omega (arith, c.len.ensures.within, c.in-Ok.ensures.room, ap length c.new-list.ensures.memory, c.requires);
-    }
+    ap Ok f ∙ c.in_ok-take_tags.ensures.taken ∙ ap (λ xs. goes_on (length v) (numbers xs) v) c.new-list.ensures.elements ∙ start v
 
-pub returns-in-Err : goal.returns-in-Err
-returns-in-Err c =
+pub returns-in_err-take_tags-clause-value : goal.returns-in_err-take_tags-clause-value
+returns-in_err-take_tags-clause-value c =
     let v = c.args.text.now in
-    record {
-      value = c.in-Err.ensures.taken ∙ ap (λ xs. goes_on (length v) (numbers xs) v) c.new-list.ensures.elements ∙ start v;
-      tags = tt;
-      few = tt;
-    }
+    let p = err_from_is_err_and c.from_residual.result c.from_residual.ensures.1 in
+    rw (p.1, p.2) (c.in_err-take_tags.ensures.taken ∙ ap (λ xs. goes_on (length v) (numbers xs) v) c.new-list.ensures.elements ∙ start v)
