@@ -3,7 +3,8 @@ use Rattle.std.proofs.Common.{◌≡◌, ℕ, ◌-◌, ◌≤◌, Bool, true, fa
 use Rattle.std.proofs.lemmas.List.{take_at}
 use Rattle.std.proofs.lemmas.Bool.{cond-true, le-leb, leb-true}
 use Rattle.store.specs.Map.{Map}
-use Rattle.store.specs.declared.reading.Copied.TheVariants.{Short, Filled}
+use Rattle.store.specs.declared.reading.NotCopied.{NotCopied}
+use Rattle.store.specs.declared.reading.NotCopied.TheVariants.{Short}
 use Rattle.store.specs.Answer.{copy_answer, copy_after}
 use Rattle.dol.specs.declared.size.DolFault.{DolFault}
 use Rattle.dol.specs.Dol.{Asked, entries, total, data_of, within, dol_data, size_of}
@@ -55,11 +56,11 @@ without_data held limit dol f e = by (entries dol) e
     by (Some es) q = by_test es (leb (total es) limit) q
 
 -- what is copied out is the value
-pub value_is : (o : Option (List ℕ)) (buf out : List ℕ) (n : ℕ) → Filled n ≡ copy_answer o (length buf) → out ≡ copy_after o buf → take (n - 0) out ≡ bytes o
+pub value_is : (o : Option (List ℕ)) (buf out : List ℕ) (n : ℕ) → Ok n ≡ copy_answer o (length buf) → out ≡ copy_after o buf → take (n - 0) out ≡ bytes o
 value_is None buf out n a e = let z : ◌≡◌ {A = ℕ} 0 1 = cc in absurd (omega arith)
 value_is (Some v) buf out n a e = by (ltb (length buf) (length v)) a e
   where
-    by : (b : Bool) → Filled n ≡ cond b Short (Filled (length v)) → out ≡ cond b buf (v ++ drop (length v) buf) → take (n - 0) out ≡ v
+    by : (b : Bool) → Ok n ≡ cond {A = Result ℕ NotCopied} b (Err Short) (Ok (length v)) → out ≡ cond b buf (v ++ drop (length v) buf) → take (n - 0) out ≡ v
     by true q c = let z : ◌≡◌ {A = ℕ} 0 1 = cc in absurd (omega arith)
     by false q c =
         let same : n ≡ length v = cc in

@@ -6,7 +6,7 @@ ghost use Rattle.commands.specs.Building.{framed};
 
 use dol::fill::fill;
 use keyed::tag::Tag;
-use store::reading::{Copied, ReadStore};
+use store::reading::ReadStore;
 
 // A tag's value, in the front of `buffer`: empty where the tag is not held.
 pub(crate) fn value_in<'a, S: ReadStore>(store: &S, tag: u32, buffer: &'a mut [u8; 255]) -> &'a [u8]
@@ -15,7 +15,7 @@ pub(crate) fn value_in<'a, S: ReadStore>(store: &S, tag: u32, buffer: &'a mut [u
     let Some(tag) = Tag::new(tag) else {
         return &buffer[0..0];
     };
-    let Copied::Filled(n) = store.copy_out(tag, buffer) else {
+    let Ok(n) = store.copy_out(tag, buffer) else {
         return &buffer[0..0];
     };
     &buffer[0..n]

@@ -8,7 +8,7 @@ use crate::slot::Slot;
 use entries::copy_to_front;
 use keyed::tag::Tag;
 use store::packing::{Pack, put_in};
-use store::reading::{Copied, ReadStore};
+use store::reading::{NotCopied, ReadStore};
 use store::writing::{Refused, WriteStore};
 
 // A store in two lent areas, limited by their lengths.
@@ -67,15 +67,11 @@ impl<'a> ReadStore for Directory<'a> {
         }
     }
 
-    fn copy_out(&self, tag: Tag, out: &mut [u8]) -> Copied {
-        match self.parts.place(tag) {
-            None => Copied::Missing,
-            Some(p) => {
-                let at = p.start;
-                let n = p.size;
-                copy_to_front(&self.parts.values[at..at + n], out)
-            }
-        }
+    fn copy_out(&self, tag: Tag, out: &mut [u8]) -> Result<usize, NotCopied> {
+        let p = self.parts.place(tag).ok_or(NotCopied::Missing)?;
+        let at = p.start;
+        let n = p.size;
+        copy_to_front(&self.parts.values[at..at + n], out)
     }
 }
 

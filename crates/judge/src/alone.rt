@@ -9,7 +9,7 @@ use crate::fault::JudgeRefusal;
 use crate::kind::TextKind;
 use crate::text::judge_text;
 use keyed::tag::Tag;
-use store::reading::{Copied, ReadStore};
+use store::reading::{NotCopied, ReadStore};
 use tlv::place::Place;
 
 // A store that holds nothing and has no room.
@@ -46,10 +46,10 @@ impl ReadStore for NothingHeld {
         None
     }
 
-    fn copy_out(&self, tag: Tag, out: &mut [u8]) -> Copied {
+    fn copy_out(&self, tag: Tag, out: &mut [u8]) -> Result<usize, NotCopied> {
         let _ = tag;
         let _ = out;
-        Copied::Missing
+        Err(NotCopied::Missing)
     }
 }
 

@@ -56,11 +56,11 @@ fn list(heap: Global) -> Result<Vec<Step>, AllocError> {
 // An answer in words.
 fn word(answer: StepAnswer) -> &'static str {
     match answer {
-        StepAnswer::Taken => "put taken",
-        StepAnswer::NotTaken(Refused::TooLong) => "put refused long",
-        StepAnswer::NotTaken(Refused::NoRoom) => "put refused room",
-        StepAnswer::WasHeld => "drop held",
-        StepAnswer::WasAbsent => "drop absent",
+        StepAnswer::Put(Ok(())) => "put taken",
+        StepAnswer::Put(Err(Refused::TooLong)) => "put refused long",
+        StepAnswer::Put(Err(Refused::NoRoom)) => "put refused room",
+        StepAnswer::Drop(true) => "drop held",
+        StepAnswer::Drop(false) => "drop absent",
     }
 }
 
@@ -83,8 +83,8 @@ fn print_both(
 
 fn main(rt: HostRuntime) -> io::Result<()> {
     let steps = list(rt.alloc())?;
-    let mut first = [StepAnswer::WasAbsent; 16];
-    let mut second = [StepAnswer::WasAbsent; 16];
+    let mut first = [StepAnswer::Drop(false); 16];
+    let mut second = [StepAnswer::Drop(false); 16];
 
     let mut slots = [Slot { tag: 0, size: 0 }; 3];
     let mut values = [0; 12];

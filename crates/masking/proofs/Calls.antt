@@ -2,7 +2,8 @@
 use Rattle.std.proofs.Common.{◌≡◌, ℕ, Bool, true, false, cond, ltb, List, ◌++◌, length, take, drop, Some, None, Ok, Err, Option, Result, sym, refl, ap, ◌∙◌, ⊎_elim, arith}
 use Rattle.std.specs.Option.{option_map}
 use Rattle.store.specs.declared.writing.Refused.{Refused}
-use Rattle.store.specs.declared.reading.Copied.TheVariants.{Short, Filled}
+use Rattle.store.specs.declared.reading.NotCopied.{NotCopied}
+use Rattle.store.specs.declared.reading.NotCopied.TheVariants.{Short}
 use Rattle.store.specs.Answer.{copy_answer, copy_after, put_answer, put_after}
 use Rattle.std.proofs.lemmas.Bool.{cond-true, cond-false, cases_Bool}
 use Rattle.std.proofs.lemmas.List.{take_at, drop_at}
@@ -27,14 +28,14 @@ lengths_masked pad t (Some v) = ap Some (length_masked pad t v)
 pub copy_answer_masked : (pad : List ℕ) (t : ℕ) (o : Option (List ℕ)) (n : ℕ)
     → copy_answer (option_map (masked pad t) o) n ≡ copy_answer o n
 copy_answer_masked pad t None n = refl
-copy_answer_masked pad t (Some v) n = ap (λ k. cond (ltb n k) Short (Filled k)) (length_masked pad t v)
+copy_answer_masked pad t (Some v) n = ap (λ k. cond {A = Result ℕ NotCopied} (ltb n k) (Err Short) (Ok k)) (length_masked pad t v)
 
-filled_is : (b : Bool) (k n : ℕ) → Filled n ≡ cond b Short (Filled k) → (b ≡ false) × (n ≡ k)
+filled_is : (b : Bool) (k n : ℕ) → Ok n ≡ cond {A = Result ℕ NotCopied} b (Err Short) (Ok k) → (b ≡ false) × (n ≡ k)
 filled_is true k n e = let z : ◌≡◌ {A = ℕ} 0 1 = cc in absurd (omega arith)
 filled_is false k n e = (refl, cc)
 
 pub copy_filled_masked : (pad : List ℕ) (t : ℕ) (o : Option (List ℕ)) (d out text : List ℕ) (l n : ℕ)
-    → n ≡ l → Filled l ≡ copy_answer o (length d) → out ≡ copy_after o d → text ≡ masked pad t (take n out)
+    → n ≡ l → Ok l ≡ copy_answer o (length d) → out ≡ copy_after o d → text ≡ masked pad t (take n out)
     → text ++ drop n out ≡ copy_after (option_map (masked pad t) o) d
 copy_filled_masked pad t None d out text l n i r a e = let z : ◌≡◌ {A = ℕ} 0 1 = cc in absurd (omega arith)
 copy_filled_masked pad t (Some v) d out text l n i r a e =
@@ -48,16 +49,16 @@ copy_filled_masked pad t (Some v) d out text l n i r a e =
     ∙ ap (λ zs. masked pad t v ++ zs) (q ∙ ap (λ k. drop k d) (sym m))
     ∙ sym (cond-false (ltb (length d) (length (masked pad t v))) d (masked pad t v ++ drop (length (masked pad t v)) d) b)
 
-pub copy_rest_masked : (pad : List ℕ) (t : ℕ) (o : Option (List ℕ)) (d out : List ℕ)
-    → ((n : ℕ) → copy_answer o (length d) ≡ Filled n → ⊥) → out ≡ copy_after o d
+pub copy_rest_masked : (pad : List ℕ) (t : ℕ) (o : Option (List ℕ)) (d out : List ℕ) (f : NotCopied)
+    → Err f ≡ copy_answer o (length d) → out ≡ copy_after o d
     → out ≡ copy_after (option_map (masked pad t) o) d
-copy_rest_masked pad t None d out not a = a
-copy_rest_masked pad t (Some v) d out not a =
+copy_rest_masked pad t None d out f r a = a
+copy_rest_masked pad t (Some v) d out f r a =
     ⊎_elim
     (λ e. a ∙ cond-true (ltb (length d) (length v)) d (v ++ drop (length v) d) e
     ∙ sym (cond-true (ltb (length d) (length (masked pad t v))) d (masked pad t v ++ drop (length (masked pad t v)) d)
     (ap (ltb (length d)) (length_masked pad t v) ∙ e)))
-    (λ e. absurd (not (length v) (cond-false (ltb (length d) (length v)) Short (Filled (length v)) e)))
+    (λ e. let q : Err f ≡ Ok (length v) = r ∙ cond-false {A = Result ℕ NotCopied} (ltb (length d) (length v)) (Err Short) (Ok (length v)) e in cc)
     (cases_Bool (ltb (length d) (length v)))
 
 -- Putting a masked value below is putting the value here.

@@ -7,7 +7,7 @@ ghost use Rattle.masking.specs.Mask.{masked, unmasked, MasksEachByte};
 ghost use Rattle.masking.specs.Masks.{kept_masked};
 
 use keyed::tag::Tag;
-use store::reading::{Copied, ReadStore};
+use store::reading::{NotCopied, ReadStore};
 use store::writing::{Refused, WriteStore};
 
 // The pad that values are masked with.
@@ -94,12 +94,10 @@ impl<S: ReadStore> ReadStore for Masking<S> {
         self.lower.length_of(tag)
     }
 
-    fn copy_out(&self, tag: Tag, out: &mut [u8]) -> Copied {
-        let copied = self.lower.copy_out(tag, out);
-        if let Copied::Filled(n) = copied {
-            self.pad.apply(tag, &mut out[0..n]);
-        }
-        copied
+    fn copy_out(&self, tag: Tag, out: &mut [u8]) -> Result<usize, NotCopied> {
+        let n = self.lower.copy_out(tag, out)?;
+        self.pad.apply(tag, &mut out[0..n]);
+        Ok(n)
     }
 }
 

@@ -2,8 +2,8 @@
 use Rattle.std.specs.Prelude.{ℕ, Bool, cond, List, [], ◌∷◌, ◌++◌, take, Some, None, Ok, Err, codes, decimal, Option, Result}
 use Rattle.hexadecimal.specs.Digits.{written}
 use Rattle.keyed.specs.declared.record.Record.{Record}
-use Rattle.store.specs.declared.reading.Copied.{Copied}
-use Rattle.store.specs.declared.reading.Copied.TheVariants.{Missing, Short, Filled}
+use Rattle.store.specs.declared.reading.NotCopied.{NotCopied}
+use Rattle.store.specs.declared.reading.NotCopied.TheVariants.{Missing, Short}
 use Rattle.store.specs.declared.writing.Refused.TheVariants.{TooLong, NoRoom}
 use Rattle.tlv.specs.Objects.{fault_number as text_fault_number}
 use Rattle.judge.specs.declared.fault.ObjectFault.{ObjectFault}
@@ -47,10 +47,10 @@ length_line None = codes "length none"
 length_line (Some n) = codes "length " ++ decimal n
 
 -- what copying answers
-abbrev pub copy_word : Copied → List ℕ
-copy_word Missing = codes "none"
-copy_word Short = codes "short"
-copy_word (Filled n) = codes "taken"
+abbrev pub copy_word : Result ℕ NotCopied → List ℕ
+copy_word (Err Missing) = codes "none"
+copy_word (Err Short) = codes "short"
+copy_word (Ok n) = codes "taken"
 
 -- a refusal, by its numbers
 abbrev pub told_words : Told → List ℕ

@@ -14,7 +14,7 @@ use run::fault::{Marks, RunFault};
 use run::outcome::OutcomeReport;
 use run::refusal::Refusal;
 use std::alloc::{AllocError, Global};
-use store::reading::Copied;
+use store::reading::NotCopied;
 use store::writing::Refused;
 
 // Two words, with a blank between them.
@@ -105,18 +105,22 @@ pub fn length_line(heap: Global, length: Option<usize>) -> Result<String, AllocE
 }
 
 // What copying answers, in a word.
-fn copy_word(copied: Copied) -> &'static str
+fn copy_word(copied: Result<usize, NotCopied>) -> &'static str
     ensures { result.now ≡ copy_word copied }
 {
     match copied {
-        Copied::Missing => "none",
-        Copied::Short => "short",
-        Copied::Filled(_) => "taken",
+        Err(NotCopied::Missing) => "none",
+        Err(NotCopied::Short) => "short",
+        Ok(_) => "taken",
     }
 }
 
 // What copying into a buffer answers, and the whole buffer.
-pub fn copy_line(heap: Global, copied: Copied, buffer: &[u8]) -> Result<String, AllocError>
+pub fn copy_line(
+    heap: Global,
+    copied: Result<usize, NotCopied>,
+    buffer: &[u8],
+) -> Result<String, AllocError>
     ensures { IfOk result (λ s. string_bytes s ≡ codes "copy " ++ (copy_word copied ++ (codes " " ++ written buffer.now))) }
 {
     let word = copy_word(copied);

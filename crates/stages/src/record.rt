@@ -19,7 +19,7 @@ use keeping::shares::Shares;
 use keyed::record::Record;
 use keyed::tag::Tag;
 use run::fault::Cause;
-use store::reading::{Copied, ReadStore};
+use store::reading::ReadStore;
 use store::writing::WriteStore;
 
 // A tag's value, in the front of `buffer`: empty where the tag is not held.
@@ -29,7 +29,7 @@ fn value_in<'a, S: ReadStore>(store: &S, tag: u32, buffer: &'a mut [u8; 255]) ->
     let Some(tag) = Tag::new(tag) else {
         return &buffer[0..0];
     };
-    let Copied::Filled(n) = store.copy_out(tag, buffer) else {
+    let Ok(n) = store.copy_out(tag, buffer) else {
         return &buffer[0..0];
     };
     &buffer[0..n]

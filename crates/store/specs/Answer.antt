@@ -2,14 +2,14 @@
 use Rattle.std.specs.Prelude.{ℕ, ◌+◌, ◌-◌, Bool, cond, ◌||◌, List, ◌++◌, length, drop, Some, None, Ok, Err, Option, Result, nat_lt}
 use Rattle.store.specs.declared.writing.Refused.{Refused}
 use Rattle.store.specs.declared.writing.Refused.TheVariants.{TooLong, NoRoom}
-use Rattle.store.specs.declared.reading.Copied.{Copied}
-use Rattle.store.specs.declared.reading.Copied.TheVariants.{Missing, Short, Filled}
+use Rattle.store.specs.declared.reading.NotCopied.{NotCopied}
+use Rattle.store.specs.declared.reading.NotCopied.TheVariants.{Missing, Short}
 use Rattle.store.specs.Map.{Map, changed, count, total}
 
 -- copying the held value o into a buffer of n bytes
-abbrev pub copy_answer : Option (List ℕ) → ℕ → Copied
-copy_answer None n = Missing
-copy_answer (Some v) n = cond (nat_lt n (length v)) Short (Filled (length v))
+abbrev pub copy_answer : Option (List ℕ) → ℕ → Result ℕ NotCopied
+copy_answer None n = Err Missing
+copy_answer (Some v) n = cond (nat_lt n (length v)) (Err Short) (Ok (length v))
 
 -- what the buffer d holds after
 abbrev pub copy_after : Option (List ℕ) → List ℕ → List ℕ

@@ -1,12 +1,11 @@
 -- Several calls of a store, one after the other: what they answer and leave, told by the map, the limits and the calls.
-use Rattle.std.specs.Prelude.{◌≡◌, ℕ, cond, List, [], ◌∷◌, take, drop, is_some, None, Ok, Err, Result}
+use Rattle.std.specs.Prelude.{◌≡◌, ℕ, List, [], ◌∷◌, take, drop, is_some, None}
 use Rattle.keyed.specs.declared.tag.Tag.{Tag}
-use Rattle.store.specs.declared.writing.Refused.{Refused}
 use Rattle.store.specs.declared.steps.Part.{Part}
 use Rattle.store.specs.declared.steps.Step.{Step}
 use Rattle.store.specs.declared.steps.Step.TheVariants.{Put, Drop}
 use Rattle.store.specs.declared.steps.StepAnswer.{StepAnswer}
-use Rattle.store.specs.declared.steps.StepAnswer.TheVariants.{Taken, NotTaken, WasHeld, WasAbsent}
+use Rattle.store.specs.declared.steps.StepAnswer.TheVariants.{Put as put_told, Drop as drop_told}
 use Rattle.store.specs.Map.{Map, changed}
 use Rattle.store.specs.Answer.{put_answer, put_after}
 
@@ -19,15 +18,10 @@ cleared (t ∷ ts) m = cleared ts (changed m t.value None)
 abbrev pub value_in : List ℕ → Part → List ℕ
 value_in text p = take p.len (drop p.start text)
 
--- a put's answer, as a step's
-abbrev pub put_told : Result (Unit {0}) Refused → StepAnswer
-put_told (Ok x) = Taken
-put_told (Err e) = NotTaken e
-
 -- what a step answers, under the limits, where the map is m
 abbrev pub step_answer : ℕ → ℕ → List ℕ → Map → Step → StepAnswer
 step_answer objects bytes text m (Put t p) = put_told (put_answer objects bytes m t.value (value_in text p))
-step_answer objects bytes text m (Drop t) = cond (is_some (m t.value)) WasHeld WasAbsent
+step_answer objects bytes text m (Drop t) = drop_told (is_some (m t.value))
 
 -- the map after it
 abbrev pub step_after : ℕ → ℕ → List ℕ → Map → Step → Map

@@ -6,15 +6,13 @@ ghost use Rattle.store.specs.Answer.{copy_answer, copy_after};
 
 use keyed::tag::Tag;
 
-// What copying out answers.
+// Why a value is not copied out.
 #[derive(Clone, Copy, PartialEq, Eq, Debug)]
-pub enum Copied {
+pub enum NotCopied {
     // The tag is not held.
     Missing,
     // The buffer is shorter than the value.
     Short,
-    // The value fills that many bytes of the buffer's front.
-    Filled(usize),
 }
 
 // A store means a map from tags to values, a limit of objects and a limit of value bytes.
@@ -48,8 +46,8 @@ pub trait ReadStore {
     fn length_of(&self, tag: Tag) -> Option<usize>
         ensures { result ≡ option_map length (held self.now tag.value) };
 
-    // Copies a tag's value into the buffer's front.
-    fn copy_out(&self, tag: Tag, out: &mut [u8]) -> Copied
+    // Copies a tag's value into the buffer's front; how many bytes of it the value fills.
+    fn copy_out(&self, tag: Tag, out: &mut [u8]) -> Result<usize, NotCopied>
         ensures answer { result ≡ copy_answer (held self.now tag.value) (length out.old) }
         ensures after { out.new ≡ copy_after (held self.now tag.value) out.old };
 }

@@ -23,16 +23,12 @@ pub enum Step {
 }
 
 // What a store answers to a step.
-#[derive(Clone, Copy)]
+#[derive(Clone, Copy, PartialEq, Eq, Debug)]
 pub enum StepAnswer {
-    // The object is held.
-    Taken,
-    // The put is refused.
-    NotTaken(Refused),
-    // The tag was held.
-    WasHeld,
-    // The tag was not held.
-    WasAbsent,
+    // What the put answers.
+    Put(Result<(), Refused>),
+    // Whether the tag was held.
+    Drop(bool),
 }
 
 impl Part {
@@ -53,17 +49,8 @@ pub fn do_step<S: WriteStore>(store: &mut S, text: &[u8], step: Step) -> StepAns
     ensures limits { (S.ReadStore.objects store.new ≡ S.ReadStore.objects store.old) × (S.ReadStore.bytes store.new ≡ S.ReadStore.bytes store.old) }
 {
     match step {
-        Step::Put(tag, part) => match store.put(tag, part.of(text)) {
-            Ok(()) => StepAnswer::Taken,
-            Err(why) => StepAnswer::NotTaken(why),
-        },
-        Step::Drop(tag) => {
-            if store.remove(tag) {
-                StepAnswer::WasHeld
-            } else {
-                StepAnswer::WasAbsent
-            }
-        }
+        Step::Put(tag, part) => StepAnswer::Put(store.put(tag, part.of(text))),
+        Step::Drop(tag) => StepAnswer::Drop(store.remove(tag)),
     }
 }
 

@@ -8,7 +8,7 @@ ghost use Rattle.strip.specs.Spot.{Spot};
 
 use entries::copy_to_front;
 use keyed::tag::Tag;
-use store::reading::Copied;
+use store::reading::NotCopied;
 
 // The tag of the entry at a place.
 fn tag_at(area: &[u8], at: usize) -> u32
@@ -71,16 +71,17 @@ pub(crate) fn length_in(text: &[u8], count: usize, tag: Tag) -> Option<usize>
 }
 
 // Copies the value of a tag to the front of a buffer.
-pub(crate) fn copy_from(text: &[u8], count: usize, tag: Tag, out: &mut [u8]) -> Copied
+pub(crate) fn copy_from(
+    text: &[u8],
+    count: usize,
+    tag: Tag,
+    out: &mut [u8],
+) -> Result<usize, NotCopied>
     requires { Laid count text.now }
     ensures answer { result ≡ copy_answer (lookup (entries count text.now) tag.value) (length out.old) }
     ensures after { out.new ≡ copy_after (lookup (entries count text.now) tag.value) out.old }
 {
-    match find(text, count, tag) {
-        None => Copied::Missing,
-        Some(at) => {
-            let n = length_at(text, at);
-            copy_to_front(&text[at + 5..at + 5 + n], out)
-        }
-    }
+    let at = find(text, count, tag).ok_or(NotCopied::Missing)?;
+    let n = length_at(text, at);
+    copy_to_front(&text[at + 5..at + 5 + n], out)
 }

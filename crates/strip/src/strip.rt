@@ -8,7 +8,7 @@ use crate::bytes::{copy_from, length_in};
 use crate::parts::Parts;
 use keyed::tag::Tag;
 use store::packing::{Pack, put_in};
-use store::reading::{Copied, ReadStore};
+use store::reading::{NotCopied, ReadStore};
 use store::writing::{Refused, WriteStore};
 
 // A store in one lent area.
@@ -72,7 +72,7 @@ impl<'a> ReadStore for Strip<'a> {
         length_in(self.parts.text(), self.parts.count, tag)
     }
 
-    fn copy_out(&self, tag: Tag, out: &mut [u8]) -> Copied {
+    fn copy_out(&self, tag: Tag, out: &mut [u8]) -> Result<usize, NotCopied> {
         copy_from(self.parts.text(), self.parts.count, tag, out)
     }
 }
