@@ -1,11 +1,12 @@
 -- One object written, and what reading a series of them gives.
-use Rattle.std.proofs.Common.{◌≡◌, ℕ, zero, suc, ◌+◌, ◌-◌, ◌/◌, ◌%◌, ◌<◌, ◌≤◌, Bool, true, false, cond, not, ◌&&◌, eqb, ltb, List, [], ◌∷◌, ◌++◌, length, get_or, take, drop, IfSome, Some, None, Ok, Err, Option, sym, refl, ap, ◌∙◌, arith, length-append, eq-eqb, ne_eqb}
+use Rattle.std.proofs.Common.{◌≡◌, ℕ, zero, suc, ◌+◌, ◌-◌, ◌/◌, ◌%◌, ◌<◌, ◌≤◌, Bool, true, false, cond, not, ◌&&◌, eqb, ltb, List, [], ◌∷◌, ◌++◌, length, get_or, take, drop, IfSome, Some, None, Ok, Err, Option, Result, sym, refl, ap, ◌∙◌, arith, length-append, eq-eqb, ne_eqb}
 use borrow.Rule.Slice.PartMut.{put_mid}
 use Rattle.std.proofs.lemmas.Slice.{take-put_mid, drop-put_mid}
 use Rattle.std.proofs.lemmas.Bool.{le-ltb, cond-true, cond-false}
 use Rattle.std.proofs.lemmas.List.{take_at, append-nil, append_assoc}
 use Rattle.std.specs.List.{AllByRecursion}
 use Rattle.std.specs.Option.{option_map}
+use Rattle.std.specs.Result.{result_unwrap_or}
 use Rattle.store.specs.Map.{Map}
 use Rattle.store.specs.Answer.{copy_after}
 use Rattle.tlv.specs.declared.write.WriteRefusal.{WriteRefusal}
@@ -86,6 +87,11 @@ module _ (t room : ℕ) (v : List ℕ) (few : length v ≤ 255) (fits : 260 ≤ 
   unwritten k e =
       let s = object_size t v in
       whole_none t v (refused (is_tag t) (ltb 255 (length v)) (ltb room (length (object_bytes t v))) k (length (object_bytes t v)) e (le-ltb 255 (length v) few) (le-ltb room (length (object_bytes t v)) (omega (arith, s.1))))
+
+  pub put_bytes : (n : ℕ) (r : Result ℕ WriteRefusal) (out out' : List ℕ) → r ≡ write_answer t v room → out' ≡ write_after r t v out → n ≡ result_unwrap_or r 0
+      → (n ≡ length (bytes_of (whole t v))) × (take n out' ≡ bytes_of (whole t v)) × (n ≤ 260)
+  put_bytes n (Ok size) out out' e a is = let w = written size out out' e a in (is ∙ w.0, ap (λ k. take k out') is ∙ w.1, omega (arith, w.2))
+  put_bytes n (Err k) out out' e a is = let w = unwritten k e in (is ∙ sym (ap length w), ap (λ k. take k out') is ∙ sym w, omega arith)
 
 -- bytes of one series after another
 pub bytes_append : (xs ys : List Object) → bytes_of (xs ++ ys) ≡ bytes_of xs ++ bytes_of ys

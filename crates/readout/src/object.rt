@@ -22,14 +22,7 @@ pub(crate) enum Absent {
 pub(crate) fn fetch<S: ReadStore>(store: &S, tag: u32, value: &mut [u8; 255]) -> Option<usize>
     ensures { Fetched result (S.held store.now tag) value.new }
 {
-    let Some(tag) = Tag::new(tag) else {
-        return None;
-    };
-    let Some(n) = store.length_of(tag) else {
-        return None;
-    };
-    let _ = store.copy_out(tag, value);
-    Some(n)
+    store.copy_out(Tag::new(tag)?, value).ok()
 }
 
 // Writes an object to the front of `room`: how many bytes; none if the number is no tag's.

@@ -1,13 +1,9 @@
-use Rattle.std.proofs.Common.{length, sym, ap, arith}
-use Rattle.readout.proofs.Written.{written, unwritten}
+use Rattle.std.proofs.Common.{length, arith}
+use Rattle.readout.proofs.Written.{put_bytes}
 use Rattle.readout.proofs.object.object_bytes.Goals as goal
 
-pub returns-in-Ok : goal.returns-in-Ok
-returns-in-Ok c =
-    let w = written c.args.tag (length c.args.room.now) c.args.value.now c.requires (omega (arith, c.fits-room)) c.in-Ok.size c.args.room.now c.write_object.new.out c.in-Ok.ensures.answer c.in-Ok.ensures.after in
+pub returns : goal.returns
+returns c =
+    let said = c.write_object.ensures in
+    let w = put_bytes c.args.tag (length c.args.room.now) c.args.value.now c.requires (omega (arith, c.fits-room)) c.unwrap_or.result c.write_object.result c.args.room.now c.write_object.new.out said.answer said.after c.unwrap_or.ensures in
     record { value = w.0; front = w.1; small = w.2 }
-
-pub returns-in-Err : goal.returns-in-Err
-returns-in-Err c =
-    let w = unwritten c.args.tag (length c.args.room.now) c.args.value.now c.requires (omega (arith, c.fits-room)) c.in-Err.field-0 c.in-Err.ensures.answer in
-    record { value = sym (ap length w); front = sym w; small = omega arith }

@@ -7,17 +7,17 @@ use Rattle.readout.proofs.Each.{wanted_is, only_wanted, where_written}
 use Rattle.readout.proofs.Once.{each_once}
 use Rattle.readout.proofs.wanted.write_listed.Goals as goal
 
-pub returns-in-Ok : goal.returns-in-Ok
-returns-in-Ok g c =
+pub returns : goal.returns
+returns g c =
     let m = g.S.ReadStore.held c.args.store.now in
-    let n = c.in-Ok.n in
+    let n = c.in_ok-n.n in
     let tags = c.listed_tags.new.tags in
     let out = c.args.out.now in
     let r = c.write_objects.result in
     let z : n - 0 ≡ n = omega arith in
-    let e : objects_at Empty (take (n - 0) tags) m ≡ wanted_objects m = ap (λ k. objects_at Empty (take k tags) m) z ∙ wanted_is (take n tags) m c.in-Ok.ensures.tags c.in-Ok.ensures.value in
+    let e : objects_at Empty (take (n - 0) tags) m ≡ wanted_objects m = ap (λ k. objects_at Empty (take k tags) m) z ∙ wanted_is (take n tags) m c.in_ok-n.ensures.tags c.in_ok-n.ensures.value in
     record {
-      answer = c.write_objects.ensures.answer ∙ ap (λ xs. fit_answer (bytes_of xs) (length out)) e ∙ ap (λ w. on_tags w (wanted_objects m) (length out)) c.in-Ok.ensures.value;
+      answer = c.write_objects.ensures.answer ∙ ap (λ xs. fit_answer (bytes_of xs) (length out)) e ∙ ap (λ w. on_tags w (wanted_objects m) (length out)) c.in_ok-n.ensures.value;
       after = c.write_objects.ensures.after ∙ ap (λ xs. write_after r (bytes_of xs) out) e;
       reads = subst (λ xs. ReadsAs r c.write_objects.new.out xs) e c.write_objects.ensures.reads;
       only = where_written r (only_wanted m);
