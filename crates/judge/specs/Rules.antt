@@ -1,5 +1,6 @@
 -- The rules for one object of a text.
-use Rattle.std.specs.Prelude.{ℕ, Bool, true, false, cond, not, ◌&&◌, ◌||◌, List, [], ◌∷◌, length, Some, None, Option, ◌==◌, nat_lt}
+use Rattle.std.specs.Prelude.{ℕ, Bool, true, false, cond, not, ◌&&◌, ◌||◌, List, length, Some, None, Option, ◌==◌, nat_lt}
+use Rattle.std.specs.List.{list_any}
 use Rattle.dictionary.specs.declared.entry.Entry.{Entry}
 use Rattle.dictionary.specs.Dictionary.{entry_of}
 use Rattle.dictionary.specs.Checks.{fits_length, fits_format}
@@ -14,8 +15,7 @@ use Rattle.judge.specs.Objects.{Object}
 
 -- one of the objects has the tag
 abbrev pub named : ℕ → List Place → Bool
-named t [] = false
-named t (p ∷ ps) = p.tag == t || named t ps
+named t ps = list_any (λ p. p.tag == t) ps
 
 -- held with a value, which is not empty
 abbrev pub has_value : Option (List ℕ) → Bool

@@ -8,7 +8,7 @@ use tlv::fault::TextFault;
 use tlv::text::ReadRefusal;
 
 // The rules that an object can break, in the order in which they are looked at.
-#[derive(Clone, Copy)]
+#[derive(Clone, Copy, PartialEq, Eq, Debug)]
 pub enum ObjectFaultKind {
     // The dictionary does not have the tag, or the object is constructed.
     UnknownTag = 1,
@@ -26,17 +26,17 @@ pub enum ObjectFaultKind {
     AfterBegin = 7,
 }
 
-impl ObjectFaultKind {
-    // The number by which the fault is known.
-    pub fn number(self) -> u8
-        ensures { result ≡ fault_number self }
-    {
-        self as u8
+// The number by which the fault is known.
+impl From<ObjectFaultKind> for u8 {
+    ghost from_gives = { λ kind n. n ≡ fault_number kind };
+
+    fn from(kind: ObjectFaultKind) -> u8 {
+        kind as u8
     }
 }
 
 // What is wrong with a text: its text fault, whole, or the fault of an object with its place and its tag.
-#[derive(Clone, Copy)]
+#[derive(Clone, Copy, PartialEq, Eq, Debug)]
 pub enum ObjectFault {
     Text(TextFault),
     Object {
@@ -55,7 +55,7 @@ impl From<TextFault> for ObjectFault {
 }
 
 // Why a text is not accepted.
-#[derive(Clone, Copy)]
+#[derive(Clone, Copy, PartialEq, Eq, Debug)]
 pub enum JudgeRefusal {
     // The work list has fewer than 64 places.
     ListShort,

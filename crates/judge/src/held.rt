@@ -9,8 +9,5 @@ use store::reading::ReadStore;
 pub fn has_value<S: ReadStore>(store: &S, tag: Tag) -> bool
     ensures { result ≡ has_value (S.ReadStore.held store.now tag.value) }
 {
-    match store.length_of(tag) {
-        None => false,
-        Some(n) => n > 0,
-    }
+    store.length_of(tag).is_some_and(|n| n > 0)
 }

@@ -4,7 +4,7 @@ ghost use Rattle.judge.specs.Kinds.{writes, late, own};
 
 use dictionary::entry::Writer;
 
-#[derive(Clone, Copy)]
+#[derive(Clone, Copy, PartialEq, Eq, Debug)]
 pub enum TextKind {
     // The configuration, handed in at opening.
     Configuration,

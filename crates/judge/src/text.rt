@@ -1,5 +1,6 @@
 // Judging a text.
 ghost use Rattle.std.specs.Prelude.{◌≡◌, ◌≤◌, [], length, take, IfOk, OnOk};
+ghost use Rattle.std.specs.Result.{result_err};
 ghost use Rattle.tlv.specs.Series.{found, meaning};
 ghost use Rattle.store.specs.Map.{Map};
 ghost use Rattle.judge.specs.Objects.{plain, outermost};
@@ -24,51 +25,46 @@ use tlv::token::{Token, next_token};
 fn is_named(places: &[Place], tag: u32) -> bool
     ensures { result ≡ named tag places.now }
 {
-    for p in places {
-        if p.tag == tag {
-            return true;
-        }
-    }
-    false
+    places.iter().any(|p| p.tag == tag)
 }
 
-// The first rule that a primitive object breaks, given those before it in the text.
-fn broken_rule<S: ReadStore>(
+// The first rule that a primitive object breaks, given those before it in the text, or that it breaks none.
+fn keeps_rules<S: ReadStore>(
     store: &S,
     kind: TextKind,
     text: &[u8],
     earlier: &[Place],
-    place: Place,
-) -> Option<ObjectFaultKind>
-    ensures { result ≡ lowest (breaks kind (S.ReadStore.held store.now) text.now earlier.now (plain place)) }
+    place: &Place,
+) -> Result<(), ObjectFaultKind>
+    ensures { result_err result ≡ lowest (breaks kind (S.ReadStore.held store.now) text.now earlier.now (plain place.now)) }
 {
     let Some(known) = Known::look_up(place.tag) else {
         return if kind.is_own() {
-            Some(ObjectFaultKind::UnknownTag)
+            Err(ObjectFaultKind::UnknownTag)
         } else {
-            None
+            Ok(())
         };
     };
     let value = place.value_in(text);
     if !kind.writes(known.entry.writer) {
-        return Some(ObjectFaultKind::OtherWriter);
+        return Err(ObjectFaultKind::OtherWriter);
     }
     if !known.entry.fits_length(value.len()) {
-        return Some(ObjectFaultKind::BadLength);
+        return Err(ObjectFaultKind::BadLength);
     }
     if !known.entry.fits_format(value) {
-        return Some(ObjectFaultKind::BadDigits);
+        return Err(ObjectFaultKind::BadDigits);
     }
     if is_named(earlier, place.tag) {
-        return Some(ObjectFaultKind::TagTwice);
+        return Err(ObjectFaultKind::TagTwice);
     }
     if !kind.is_own() && has_value(store, known.tag) {
-        return Some(ObjectFaultKind::HeldWithValue);
+        return Err(ObjectFaultKind::HeldWithValue);
     }
     if kind.late(known.entry.writer) {
-        return Some(ObjectFaultKind::AfterBegin);
+        return Err(ObjectFaultKind::AfterBegin);
     }
-    None
+    Ok(())
 }
 
 // The first constructed object of a series, outermost.
@@ -78,9 +74,7 @@ fn first_constructed(text: &[u8]) -> Option<Place>
     let end = text.len();
     let mut rest = text;
     loop {
-        let Ok((token, after)) = next_token(rest, end) else {
-            return None;
-        };
+        let (token, after) = next_token(rest, end).ok()?;
         match token {
             Token::End => return None,
             Token::Constructed {
@@ -116,10 +110,7 @@ fn constructed_in(kind: TextKind, text: &[u8]) -> Option<Place>
 fn stands_before(constructed: Option<Place>, at: usize) -> bool
     ensures { result ≡ stands_before constructed at }
 {
-    match constructed {
-        Some(place) => place.at < at,
-        None => false,
-    }
+    constructed.is_some_and(|place| place.at < at)
 }
 
 // A constructed object is an unknown one.
@@ -127,13 +118,11 @@ fn unknown_at(constructed: Option<Place>) -> Result<(), ObjectFault>
     ensures { result ≡ unknown_at constructed }
 {
     match constructed {
-        Some(place) => {
-            Err(ObjectFault::Object {
-                kind: ObjectFaultKind::UnknownTag,
-                at: place.at,
-                tag: place.tag,
-            })
-        }
+        Some(place) => Err(ObjectFault::Object {
+            kind: ObjectFaultKind::UnknownTag,
+            at: place.at,
+            tag: place.tag,
+        }),
         None => Ok(()),
     }
 }
@@ -148,18 +137,17 @@ fn walk<S: ReadStore>(
 ) -> Result<(), ObjectFault>
     ensures { result ≡ walked kind (S.ReadStore.held store.now) text.now constructed [] places.now }
 {
-    for i in 0..places.len() {
-        let place = places[i];
+    for (i, place) in places.iter().enumerate() {
         if stands_before(constructed, place.at) {
             return unknown_at(constructed);
         }
-        if let Some(rule) = broken_rule(store, kind, text, &places[0..i], place) {
-            return Err(ObjectFault::Object {
-                kind: rule,
+        keeps_rules(store, kind, text, &places[0..i], place).map_err(|kind| {
+            ObjectFault::Object {
+                kind,
                 at: place.at,
                 tag: place.tag,
-            });
-        }
+            }
+        })?;
     }
     unknown_at(constructed)
 }
