@@ -1,10 +1,9 @@
 -- What putting does to the counts of a map.
-use Rattle.std.proofs.Common.{◌≡◌, ℕ, ◌+◌, ◌<◌, ◌≤◌, false, cond, not, ◌||◌, ltb, List, length, IfSome, Some, None, Ok, Err, Option, sym, ap, ◌∙◌, subst, arith}
+use Rattle.std.proofs.Common.{◌≡◌, ℕ, ◌+◌, ◌<◌, ◌≤◌, false, not, ◌||◌, ltb, List, length, IfSome, Some, None, Option, sym, ap, ◌∙◌, subst, arith}
 use Rattle.std.specs.Option.{option_map}
-use Rattle.std.proofs.lemmas.Bool.{or_parts, ltb-false, cond-false, le-ltb}
+use Rattle.std.proofs.lemmas.Bool.{or_parts, ltb-false}
 use Rattle.store.specs.Map.{Map, changed, one, size, count, total}
-use Rattle.store.specs.declared.writing.Refused.TheVariants.{TooLong, NoRoom}
-use Rattle.store.specs.Answer.{passes, count_after, total_after, put_answer}
+use Rattle.store.specs.Answer.{passes, count_after, total_after}
 use Rattle.store.specs.Maps.{count_changed, total_changed, changed_here, changed_changed}
 
 counts : (o : Option (List ℕ)) (c c' : ℕ) → c' + one o ≡ c + 1 → c' ≡ count_after c (option_map length o)
@@ -63,9 +62,3 @@ pub room_answer : (o b c s : ℕ) (h : Option ℕ) (m : Map) (t : ℕ) (v : List
     → h ≡ option_map length (m t) → c ≡ count m → s ≡ total m
     → not (ltb o (count_after c h) || ltb b (total_after s h (length v))) ≡ not (passes o b (changed m t (Some v)))
 room_answer o b c s h m t v l e f g = let p = passes_after o b m t v l in cc
-
-pub put_taken : (o b : ℕ) (m : Map) (t : ℕ) (v : List ℕ) → length v ≤ 255 → passes o b (changed m t (Some v)) ≡ false
-    → Ok tt ≡ put_answer o b m t v
-put_taken o b m t v l p =
-    sym (cond-false (ltb 255 (length v)) (Err TooLong) (cond (passes o b (changed m t (Some v))) (Err NoRoom) (Ok tt)) (le-ltb 255 (length v) l)
-    ∙ cond-false (passes o b (changed m t (Some v))) (Err NoRoom) (Ok tt) p)

@@ -6,20 +6,12 @@ use crate::reading::ReadStore;
 use crate::writing::WriteStore;
 use keyed::tag::Tag;
 
-// Drops one tag after the other.
-fn remove_each<S: WriteStore>(store: &mut S, tags: &[Tag])
+// Holds none of the tags any longer; every other object stays.
+pub fn remove_all<S: WriteStore>(store: &mut S, tags: &[Tag])
     ensures after { S.ReadStore.held store.new ≡ cleared tags.now (S.ReadStore.held store.old) }
     ensures limits { (S.ReadStore.objects store.new ≡ S.ReadStore.objects store.old) × (S.ReadStore.bytes store.new ≡ S.ReadStore.bytes store.old) }
 {
     for t in tags {
         store.remove(*t);
     }
-}
-
-// Holds none of the tags any longer; every other object stays.
-pub fn remove_all<S: WriteStore>(store: &mut S, tags: &[Tag])
-    ensures after { S.ReadStore.held store.new ≡ cleared tags.now (S.ReadStore.held store.old) }
-    ensures limits { (S.ReadStore.objects store.new ≡ S.ReadStore.objects store.old) × (S.ReadStore.bytes store.new ≡ S.ReadStore.bytes store.old) }
-{
-    remove_each(store, tags);
 }

@@ -31,43 +31,54 @@ pub trait Pack: ReadStore {
         ensures limits { (Self.objects self.new ≡ Self.objects self.old) × (Self.bytes self.new ≡ Self.bytes self.old) };
 }
 
-// Whether `n` bytes may take the place of a value of length `held`, in a store of that many objects and value bytes.
-fn room(
+// How full a store is: its limits, how many objects it holds, and how many value bytes.
+#[derive(Clone, Copy)]
+struct Fill {
     objects: usize,
     bytes: usize,
     count: usize,
     total: usize,
-    held: Option<usize>,
-    n: usize,
-) -> bool
-    requires { (count ≤ objects) × (total ≤ bytes) × IfSome held (λ l. l ≤ total) }
-    ensures { result ≡ not (nat_lt objects (count_after count held) || nat_lt bytes (total_after total held n)) }
-{
-    match held {
-        None => count < objects && n <= bytes - total,
-        Some(l) => n <= bytes - (total - l),
+    ghost within: { (count ≤ objects) × (total ≤ bytes) },
+}
+
+impl Fill {
+    // How full that store is.
+    fn of<S: ReadStore>(s: &S) -> Fill
+        ensures limits { (result.objects ≡ S.ReadStore.objects s.now) × (result.bytes ≡ S.ReadStore.bytes s.now) }
+        ensures holds { (result.count ≡ count (S.ReadStore.held s.now)) × (result.total ≡ total (S.ReadStore.held s.now)) }
+    {
+        Fill {
+            objects: s.object_limit(),
+            bytes: s.byte_limit(),
+            count: s.object_count(),
+            total: s.byte_total(),
+        }
+    }
+
+    // Whether `n` bytes may take the place of a value of length `held`.
+    fn leaves_room(self, held: Option<usize>, n: usize) -> bool
+        requires { IfSome held (λ l. l ≤ self.total) }
+        ensures { result ≡ not (nat_lt self.objects (count_after self.count held) || nat_lt self.bytes (total_after self.total held n)) }
+    {
+        match held {
+            None => self.count < self.objects && n <= self.bytes - self.total,
+            Some(l) => n <= self.bytes - (self.total - l),
+        }
     }
 }
 
 // Whether the limits leave room for a value in the place of what its tag holds, a value of length `held`.
+#[tactic(auto, using(crate::proofs::Rooms::room_answer))]
 fn has_room<S: ReadStore>(s: &S, tag: Tag, value: &[u8], held: Option<usize>) -> bool
     requires { held ≡ option_map length (S.ReadStore.held s.now tag.value) }
     ensures { result ≡ not (passes (S.ReadStore.objects s.now) (S.ReadStore.bytes s.now) (changed (S.ReadStore.held s.now) tag.value (Some value.now))) }
 {
-    let count = s.object_count();
-    let total = s.byte_total();
-    room(
-        s.object_limit(),
-        s.byte_limit(),
-        count,
-        total,
-        held,
-        value.len(),
-    )
+    Fill::of(s).leaves_room(held, value.len())
 }
 
 // Puts a value of at most 255 bytes: one of the same length is written over the old one; else the old one is taken out,
 // which moves what lies behind it once, and the new one is added at the end.
+#[tactic(auto, using(crate::proofs::Rooms::room_left))]
 fn put_short<S: Pack>(s: &mut S, tag: Tag, value: &[u8]) -> Result<(), Refused>
     requires { length value.now ≤ 255 }
     ensures answer { result ≡ put_answer (S.ReadStore.objects s.old) (S.ReadStore.bytes s.old) (S.ReadStore.held s.old) tag.value value.now }
@@ -78,11 +89,9 @@ fn put_short<S: Pack>(s: &mut S, tag: Tag, value: &[u8]) -> Result<(), Refused>
     if !has_room(s, tag, value, held) {
         return Err(Refused::NoRoom);
     }
-    if let Some(n) = held {
-        if n == value.len() {
-            s.overwrite(tag, value);
-            return Ok(());
-        }
+    if held == Some(value.len()) {
+        s.overwrite(tag, value);
+        return Ok(());
     }
     s.take_out(tag);
     s.append(tag, value);

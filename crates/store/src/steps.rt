@@ -7,7 +7,7 @@ use crate::writing::{Refused, WriteStore};
 use keyed::tag::Tag;
 
 // A part of a text: so many bytes from a place on, as far as the text reaches.
-#[derive(Clone, Copy)]
+#[derive(Clone, Copy, PartialEq, Eq, Debug)]
 pub struct Part {
     pub start: usize,
     pub len: usize,
@@ -36,9 +36,8 @@ impl Part {
     fn of(self, text: &[u8]) -> &[u8]
         ensures { result.now ≡ value_in text.now self }
     {
-        let start = self.start.min(text.len());
-        let len = self.len.min(text.len() - start);
-        &text[start..start + len]
+        let rest = &text[self.start.min(text.len())..];
+        &rest[..self.len.min(rest.len())]
     }
 }
 
@@ -54,21 +53,16 @@ pub fn do_step<S: WriteStore>(store: &mut S, text: &[u8], step: Step) -> StepAns
     }
 }
 
-// Does the first `n` steps in turn.
-fn run_first<S: WriteStore>(
-    store: &mut S,
-    text: &[u8],
-    steps: &[Step],
-    answers: &mut [StepAnswer],
-    n: usize,
-)
-    requires { (n ≤ length steps.now) × (n ≤ length answers.old) }
-    ensures answers { answers.new ≡ answers_of (S.ReadStore.objects store.old) (S.ReadStore.bytes store.old) text.now (S.ReadStore.held store.old) (take n steps.now) ++ drop n answers.old }
-    ensures after { S.ReadStore.held store.new ≡ map_after (S.ReadStore.objects store.old) (S.ReadStore.bytes store.old) text.now (S.ReadStore.held store.old) (take n steps.now) }
+// Does the steps in turn, and puts the answers into the places' front.
+fn run_all<S: WriteStore>(store: &mut S, text: &[u8], steps: &[Step], answers: &mut [StepAnswer])
+    requires { length steps.now ≤ length answers.old }
+    ensures answers { answers.new ≡ answers_of (S.ReadStore.objects store.old) (S.ReadStore.bytes store.old) text.now (S.ReadStore.held store.old) steps.now ++ drop (length steps.now) answers.old }
+    ensures after { S.ReadStore.held store.new ≡ map_after (S.ReadStore.objects store.old) (S.ReadStore.bytes store.old) text.now (S.ReadStore.held store.old) steps.now }
     ensures limits { (S.ReadStore.objects store.new ≡ S.ReadStore.objects store.old) × (S.ReadStore.bytes store.new ≡ S.ReadStore.bytes store.old) }
 {
-    for i in 0..n {
-        answers[i] = do_step(store, text, steps[i]);
+    // By the index: a `zip` with `answers.iter_mut()` lends the answers for the whole loop, and no invariant can name them.
+    for (i, step) in steps.iter().enumerate() {
+        answers[i] = do_step(store, text, *step);
     }
 }
 
@@ -86,29 +80,8 @@ pub fn run_steps<S: WriteStore>(
     ensures limits { (S.ReadStore.objects store.new ≡ S.ReadStore.objects store.old) × (S.ReadStore.bytes store.new ≡ S.ReadStore.bytes store.old) }
 {
     let n = steps.len().min(answers.len());
-    run_first(store, text, steps, answers, n);
+    run_all(store, text, &steps[..n], answers);
     n
-}
-
-// Does the first `n` steps in turn over two stores.
-fn run_pair<A: WriteStore, B: WriteStore>(
-    a: &mut A,
-    b: &mut B,
-    text: &[u8],
-    steps: &[Step],
-    first: &mut [StepAnswer],
-    second: &mut [StepAnswer],
-    n: usize,
-)
-    requires { (n ≤ length steps.now) × (n ≤ length first.old) × (n ≤ length second.old) }
-    ensures first { first.new ≡ answers_of (A.ReadStore.objects a.old) (A.ReadStore.bytes a.old) text.now (A.ReadStore.held a.old) (take n steps.now) ++ drop n first.old }
-    ensures second { second.new ≡ answers_of (B.ReadStore.objects b.old) (B.ReadStore.bytes b.old) text.now (B.ReadStore.held b.old) (take n steps.now) ++ drop n second.old }
-    ensures after { (A.ReadStore.held a.new ≡ map_after (A.ReadStore.objects a.old) (A.ReadStore.bytes a.old) text.now (A.ReadStore.held a.old) (take n steps.now)) × (B.ReadStore.held b.new ≡ map_after (B.ReadStore.objects b.old) (B.ReadStore.bytes b.old) text.now (B.ReadStore.held b.old) (take n steps.now)) }
-    ensures alike { A.ReadStore.held a.old ≡ B.ReadStore.held b.old → A.ReadStore.objects a.old ≡ B.ReadStore.objects b.old → A.ReadStore.bytes a.old ≡ B.ReadStore.bytes b.old → SameAnswers (A.ReadStore.objects a.old) (A.ReadStore.bytes a.old) text.now (A.ReadStore.held a.old) steps.now n first.new second.new (A.ReadStore.held a.new) (B.ReadStore.held b.new) }
-    ensures limits { ((A.ReadStore.objects a.new ≡ A.ReadStore.objects a.old) × (A.ReadStore.bytes a.new ≡ A.ReadStore.bytes a.old)) × ((B.ReadStore.objects b.new ≡ B.ReadStore.objects b.old) × (B.ReadStore.bytes b.new ≡ B.ReadStore.bytes b.old)) }
-{
-    run_first(a, text, steps, first, n);
-    run_first(b, text, steps, second, n);
 }
 
 // Does the steps in turn over two stores, as many as both have places for answers; how many were done. Stores that
@@ -130,6 +103,7 @@ pub fn run_both<A: WriteStore, B: WriteStore>(
     ensures limits { ((A.ReadStore.objects a.new ≡ A.ReadStore.objects a.old) × (A.ReadStore.bytes a.new ≡ A.ReadStore.bytes a.old)) × ((B.ReadStore.objects b.new ≡ B.ReadStore.objects b.old) × (B.ReadStore.bytes b.new ≡ B.ReadStore.bytes b.old)) }
 {
     let n = steps.len().min(first.len().min(second.len()));
-    run_pair(a, b, text, steps, first, second, n);
+    run_all(a, text, &steps[..n], first);
+    run_all(b, text, &steps[..n], second);
     n
 }

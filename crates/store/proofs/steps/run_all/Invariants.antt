@@ -1,6 +1,6 @@
 use Rattle.std.proofs.Common.{◌≡◌, ◌++◌, take, drop}
 use Rattle.store.specs.Steps.{answers_of, map_after}
-use Rattle.store.proofs.steps.run_first.Given as goal
+use Rattle.store.proofs.steps.run_all.Given as goal
 
 abbrev pub invariant-loop-i : goal.invariant-loop-i
 invariant-loop-i g l =

@@ -1,7 +1,7 @@
 use Rattle.std.proofs.Common.{◌≡◌, ap, ◌∙◌, arith}
 use Rattle.store.specs.Steps.{step_answer, step_after}
 use Rattle.store.proofs.Runs.{answers_more, map_more}
-use Rattle.store.proofs.steps.run_first.Goals as goal
+use Rattle.store.proofs.steps.run_all.Goals as goal
 
 pub loop-i-preserved : goal.loop-i-preserved
 loop-i-preserved g c =

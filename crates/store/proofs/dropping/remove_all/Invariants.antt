@@ -1,6 +1,6 @@
 use Rattle.std.proofs.Common.{◌≡◌, drop}
 use Rattle.store.specs.Steps.{cleared}
-use Rattle.store.proofs.dropping.remove_each.Given as goal
+use Rattle.store.proofs.dropping.remove_all.Given as goal
 
 abbrev pub invariant-loop-t : goal.invariant-loop-t
 invariant-loop-t g l =
