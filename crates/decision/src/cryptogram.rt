@@ -24,6 +24,7 @@ impl Cryptogram {
     }
 
     // What the Cryptogram Information Data says was given: its top two bits are those of the parameter.
+    // Not a `TryFrom<u8>`: P1 is a byte that names a kind too, so the name tells which byte is read.
     pub fn from_information(information: u8) -> Option<Cryptogram>
         ensures { result ≡ informed information }
     {

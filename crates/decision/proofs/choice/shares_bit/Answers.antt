@@ -8,6 +8,6 @@ use Rattle.decision.proofs.choice.shares_bit.Goals as goal
 pub returns : goal.returns
 returns c =
     any_from_yields_List pair_shares c.any.new.self _ _ c.any.ensures.ran
-        (YieldsList-from_zip (YieldsList-from_slice c.args.a.now cc) (YieldsList-from_slice c.args.b.now cc))
-        (λ x b q k. search (rules, tests))
+    (YieldsList-from_zip (YieldsList-from_slice c.args.a.now cc) (YieldsList-from_slice c.args.b.now cc))
+    (λ x b q k. search (rules, tests))
     ∙ any_pair c.args.a.now c.args.b.now
