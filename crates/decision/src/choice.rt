@@ -7,13 +7,7 @@ use crate::cryptogram::Cryptogram;
 fn shares_bit(a: &[u8], b: &[u8]) -> bool
     ensures { result ≡ share_bit a.now b.now }
 {
-    let n = a.len().min(b.len());
-    for i in 0..n {
-        if a[i] & b[i] != 0 {
-            return true;
-        }
-    }
-    false
+    a.iter().zip(b.iter()).any(|(x, y)| x & y != 0)
 }
 
 fn is_online_only(terminal: u8) -> bool

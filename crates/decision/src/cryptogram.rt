@@ -4,7 +4,7 @@ ghost use Rattle.decision.specs.Cryptograms.{parameter, informed, stands, answer
 
 // A decline (AAC), an approval offline (TC) or a request to go online (ARQC), each with P1 of the GENERATE AC that asks
 // for it.
-#[derive(Clone, Copy)]
+#[derive(Clone, Copy, Debug, PartialEq, Eq)]
 pub enum Cryptogram {
     Aac = 0x00,
     Tc = 0x40,
@@ -12,7 +12,7 @@ pub enum Cryptogram {
 }
 
 // The card gave a cryptogram that it was not asked for.
-#[derive(Clone, Copy)]
+#[derive(Clone, Copy, Debug, PartialEq, Eq)]
 pub struct WrongCryptogram;
 
 impl Cryptogram {
@@ -24,6 +24,7 @@ impl Cryptogram {
     }
 
     // What the Cryptogram Information Data says was given: its top two bits are those of the parameter.
+    // Not a `TryFrom<u8>`: P1 is a byte that names a kind too, so the name tells which byte is read.
     pub fn from_information(information: u8) -> Option<Cryptogram>
         ensures { result ≡ informed information }
     {
@@ -39,11 +40,10 @@ impl Cryptogram {
     fn allows(self, given: Cryptogram) -> bool
         ensures { result ≡ stands self given }
     {
-        match (self, given) {
-            (_, Cryptogram::Aac) => true,
-            (Cryptogram::Tc, _) => true,
-            (Cryptogram::Arqc, Cryptogram::Arqc) => true,
-            _ => false,
+        match given {
+            Cryptogram::Aac => true,
+            Cryptogram::Tc => self == Cryptogram::Tc,
+            Cryptogram::Arqc => self != Cryptogram::Aac,
         }
     }
 
@@ -51,9 +51,7 @@ impl Cryptogram {
     pub fn answered(self, information: u8) -> Result<Cryptogram, WrongCryptogram>
         ensures { result ≡ answered self information }
     {
-        let Some(given) = Cryptogram::from_information(information) else {
-            return Err(WrongCryptogram);
-        };
+        let given = Cryptogram::from_information(information).ok_or(WrongCryptogram)?;
         if self.allows(given) {
             Ok(given)
         } else {

@@ -1,15 +1,10 @@
 -- Names beside the entries.
-use Rattle.std.proofs.Common.{◌≡◌, ℕ, zero, suc, ◌<◌, true, ltb, List, [], ◌∷◌, length, get_or, Some, None, sym, refl, ap, ◌∙◌, le_of_suc-le-suc, not-suc-le-zero, arith, Bor}
+use Rattle.std.proofs.Common.{◌≡◌, ℕ, zero, suc, ◌<◌, true, ltb, List, [], ◌∷◌, length, get_or, Some, None, sym, refl, ap, ◌∙◌, le_of_suc-le-suc, not-suc-le-zero, arith}
 use Rattle.std.proofs.lemmas.Bool.{eq-eqb, ne_eqb, cond-true, cond-false, and_parts}
 use Rattle.dictionary.specs.declared.entry.Entry.{Entry}
 use Rattle.dictionary.specs.Dictionary.{dictionary, rises}
-use Rattle.dictionary.specs.Names.{names, beside, name_of, texts}
+use Rattle.dictionary.specs.Names.{names, beside, name_of}
 use Rattle.dictionary.proofs.Order.{above, dictionary_rises}
-
-pub text_at : (rs : List (Bor (List ℕ))) (k : ℕ) (d : Bor (List ℕ)) → k < length rs → (get_or rs k d).now ≡ get_or (texts rs) k []
-text_at [] k d h = absurd (not-suc-le-zero h)
-text_at (r ∷ rs) zero d h = refl
-text_at (r ∷ rs) (suc k) d h = text_at rs k d (le_of_suc-le-suc h)
 
 beside_at : (b : ℕ) (es : List Entry) (ns : List (List ℕ)) → rises b es ≡ true → (k : ℕ) (d : Entry) → k < length es → k < length ns → beside (get_or es k d).tag es ns ≡ Some (get_or ns k [])
 beside_at b [] ns r k d h l = absurd (not-suc-le-zero h)

@@ -24,9 +24,12 @@ pub dictionary_rises : rises 0 dictionary ≡ true
 unfolding dictionary
 dictionary_rises = refl
 
+pub ordered_by : (es : List Entry) → rises 0 es ≡ true → Ordered es
+ordered_by es r = in_order 0 es r
+
 -- the tags of the dictionary are in order, so no tag stands twice
 pub ordered : Ordered dictionary
-ordered = in_order 0 dictionary dictionary_rises
+ordered = ordered_by dictionary dictionary_rises
 
 find_at : (b : ℕ) (es : List Entry) → rises b es ≡ true → (k : ℕ) (d : Entry) → k < length es → find (get_or es k d).tag es ≡ Some (get_or es k d)
 find_at b [] r k d h = absurd (not-suc-le-zero h)

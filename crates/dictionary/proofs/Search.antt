@@ -1,67 +1,18 @@
 -- Looking a tag up by halves.
-use Rattle.std.proofs.Common.{◌≡◌, ℕ, ◌+◌, ◌<◌, ◌≤◌, length, get_or, sym, ap, ◌∙◌, ⊎_elim, not-suc-le-zero, arith}
+use Rattle.std.proofs.Common.{◌≡◌, ℕ, ◌<◌, ◌≤◌, List, length, get_or, Some, None, Ok, Err, Result, sym, subst, ap, ◌∙◌, ⊎_elim, arith}
+use Rattle.std.specs.Cmp.{ranks}
+use Rattle.std.specs.Ordering.{nat_cmp, ordering_index, MatchOrdering}
+use Rattle.std.specs.declared.cmp.Ordering.TheVariants.{Less, Equal, Greater}
+use Rattle.std.specs.List.Sorted.{IsBinarySearchResult, IsSearchInRange, IsNonDecreasingBy}
+use Rattle.std.specs.Result.{MatchResult, result_ok}
 use Rattle.std.proofs.lemmas.List.{get_or_default}
-use Rattle.std.proofs.lemmas.Bool.{cases_order}
+use Rattle.std.proofs.lemmas.Bool.{cases_lt}
+use borrow.Author.Tests.{tests}
 use Rattle.dictionary.specs.declared.entry.Entry.{Entry}
 use Rattle.dictionary.specs.Dictionary.{dictionary}
 use Rattle.dictionary.specs.Places.{StandsAt, Nowhere}
 use Rattle.dictionary.proofs.Order.{ordered, long, entry_at, entry_none, entry_sound}
 use Rattle.dictionary.proofs.Naming.{name_at_lem, name_none}
-
--- where a search for the tag t has still to look: its entry stands neither before `low` nor from `high` on
-pub record Window (t low high : ℕ) : Type 0 where
-  pub within : high ≤ 48
-  pub before : (k : ℕ) (d : Entry) → k < low → (get_or dictionary k d).tag < t
-  pub after : (k : ℕ) (d : Entry) → high ≤ k → k < 48 → t < (get_or dictionary k d).tag
-
-module _ (t low high : ℕ) (w : Window t low high) where
-  pub window_up : (mid : ℕ) (d : Entry) → mid < high → (get_or dictionary mid d).tag < t → Window t (mid + 1) high
-  window_up mid d h l =
-      let n = long in
-      let in' = w.within in
-      record {
-        within = in';
-        before = λ k e lt.
-            let same = ap (λ x. x.tag) (get_or_default dictionary k e d (omega arith)) in
-            ⊎_elim
-            (λ eq. omega (arith, same, ap (λ i. (get_or dictionary i d).tag) eq))
-            (⊎_elim (λ less. omega (arith, same, ordered k mid d less (omega arith))) (λ more. absurd (omega arith)))
-            (cases_order k mid);
-        after = w.after;
-      }
-
-  pub window_down : (mid : ℕ) (d : Entry) → mid < high → t ≤ (get_or dictionary mid d).tag → ((get_or dictionary mid d).tag ≡ t → ⊥) → Window t low mid
-  window_down mid d h l ne =
-      let n = long in
-      let in' = w.within in
-      record {
-        within = omega arith;
-        before = w.before;
-        after = λ k e le lt.
-            let same = ap (λ x. x.tag) (get_or_default dictionary k e d (omega arith)) in
-            ⊎_elim
-            (λ eq. omega (arith, same, ap (λ i. (get_or dictionary i d).tag) eq))
-            (⊎_elim (λ less. absurd (omega arith)) (λ more. omega (arith, same, ordered mid k d more (omega arith))))
-            (cases_order k mid);
-      }
-
-  nowhere : high ≤ low → (k : ℕ) (d : Entry) → k < length dictionary → (get_or dictionary k d).tag ≡ t → ⊥
-  nowhere le k d lt e =
-      let n = long in
-      ⊎_elim
-      (λ eq. omega (arith, w.after k d (omega arith) (omega arith)))
-      (⊎_elim (λ less. omega (arith, w.before k d (omega arith))) (λ more. omega (arith, w.after k d (omega arith) (omega arith))))
-      (cases_order k low)
-
-  pub window_none : high ≤ low → Nowhere t
-  window_none le = record {
-    entry = sym (entry_none t (nowhere le));
-    unlisted = λ e has same. nowhere le has.0 e has.1 (ap (λ x. x.tag) (has.2 e) ∙ same);
-    name = name_none t (nowhere le);
-  }
-
-pub window_all : (t : ℕ) → Window t 0 48
-window_all t = record { within = omega arith; before = λ k d h. absurd (not-suc-le-zero h); after = λ k d h l. absurd (omega arith) }
 
 pub stands_at : (k : ℕ) (d : Entry) (t : ℕ) → k < 48 → (get_or dictionary k d).tag ≡ t → StandsAt t k (get_or dictionary k d)
 stands_at k d t h e =
@@ -77,3 +28,50 @@ stands_at k d t h e =
       small = sound.tag;
       name = name_at_lem k d t lt h e;
     }
+
+-- how the tag of an entry compares
+same : (t n : ℕ) → nat_cmp n t ≡ Equal → n ≡ t
+same t n e = subst (λ o. MatchOrdering o (n < t) (n ≡ t) (t < n)) e (ranks n t)
+
+less : (t n : ℕ) → nat_cmp n t ≡ Less → n < t
+less t n e = subst (λ o. MatchOrdering o (n < t) (n ≡ t) (t < n)) e (ranks n t)
+
+more : (t n : ℕ) → nat_cmp n t ≡ Greater → t < n
+more t n e = subst (λ o. MatchOrdering o (n < t) (n ≡ t) (t < n)) e (ranks n t)
+
+higher : (t a b : ℕ) → a ≤ b → ordering_index (nat_cmp a t) ≤ ordering_index (nat_cmp b t)
+higher t a b le = grind (arith, tests)
+
+rising : (t : ℕ) → IsNonDecreasingBy (λ (e : Entry). ordering_index (nat_cmp e.tag t)) dictionary
+rising t i j d le lt = higher t _ _ (⊎_elim (λ l. omega (arith, ordered i j d l lt)) (λ l. let e : i ≡ j = omega arith in omega (arith, ap (λ k. (get_or dictionary k d).tag) e)) (cases_lt i j))
+
+none_stands : (t : ℕ) → ((k : ℕ) (d : Entry) → k < length dictionary → (get_or dictionary k d).tag ≡ t → ⊥) → Nowhere t
+none_stands t none = record {
+  entry = sym (entry_none t none);
+  unlisted = λ e has same. none has.0 e has.1 (ap (λ x. x.tag) (has.2 e) ∙ same);
+  name = name_none t none;
+}
+
+-- what the search by halves says of the tag t, since the tags rise
+module _ (t : ℕ) (es : List Entry) (is : es ≡ dictionary) where
+  searched : (r : Result ℕ ℕ) → IsSearchInRange r (length dictionary) → IsBinarySearchResult (λ (e : Entry). nat_cmp e.tag t) dictionary r →
+      MatchResult r (λ k. (d : Entry) → StandsAt t k (get_or dictionary k d)) (λ _. Nowhere t)
+  searched (Ok k) bound at = λ d. let n = long in stands_at k d t (omega arith) (same t _ (at d))
+  searched (Err k) bound parted = none_stands t (λ i d lt e. let p = parted (rising t) in
+      ⊎_elim
+      (λ l. omega (arith, less t _ (p.0 i d (omega arith) l)))
+      (λ l. omega (arith, more t _ (p.1 i d l lt)))
+      (cases_lt i k))
+
+  pub found_some : (r : Result ℕ ℕ) → IsSearchInRange r (length es) → IsBinarySearchResult (λ (e : Entry). nat_cmp e.tag t) es r →
+      (k : ℕ) (d : Entry) → Some k ≡ result_ok r → (i : ℕ) × StandsAt t i (get_or es k d)
+  found_some (Ok i) bound at k d e =
+      let P : ℕ → Type 0 = λ j. (i : ℕ) × StandsAt t i (get_or es j d) in
+      let i' : i ≡ k = cc in
+      subst P i' (i, rw is (searched (Ok i) (rw is at bound) (rw is at at) d))
+  found_some (Err i) bound at k d e = absurd (let z : ◌≡◌ {A = ℕ} 0 1 = cc in omega arith)
+
+  pub found_none : (r : Result ℕ ℕ) → IsSearchInRange r (length es) → IsBinarySearchResult (λ (e : Entry). nat_cmp e.tag t) es r →
+      None ≡ result_ok r → Nowhere t
+  found_none (Ok i) bound at e = absurd (let z : ◌≡◌ {A = ℕ} 0 1 = cc in omega arith)
+  found_none (Err i) bound at e = searched (Err i) (rw is at bound) (rw is at at)

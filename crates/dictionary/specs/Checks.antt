@@ -1,5 +1,5 @@
 -- What a value must be to be held under an entry of the dictionary.
-use Rattle.std.specs.Prelude.{ℕ, ◌/◌, ◌%◌, Bool, true, false, cond, not, ◌&&◌, ◌||◌, List, [], ◌∷◌, Some, None, Option, ◌==◌, nat_le, nat_lt}
+use Rattle.std.specs.Prelude.{ℕ, ◌/◌, ◌%◌, Bool, true, cond, ◌&&◌, ◌||◌, List, [], ◌∷◌, ◌==◌, nat_le, nat_lt}
 use Rattle.dictionary.specs.declared.entry.Entry.{Entry}
 use Rattle.dictionary.specs.declared.entry.Format.{Format}
 use Rattle.dictionary.specs.declared.entry.Format.TheVariants.{Numeric, CompressedNumeric, Alphanumeric, AlphanumericSpecial, Binary}
@@ -35,7 +35,3 @@ fits_format CompressedNumeric v = digits_then_f (halves v)
 fits_format Alphanumeric v = true
 fits_format AlphanumericSpecial v = true
 fits_format Binary v = true
-
--- one half-byte more: whether the padding has begun after it, or none where it may not follow
-abbrev pub next_half : Bool → ℕ → Option Bool
-next_half padded h = cond (h == 15) (Some true) (cond (nat_lt h 10 && not padded) (Some false) None)

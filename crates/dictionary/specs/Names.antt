@@ -1,6 +1,5 @@
 -- The names of the entries, in the order of the table.
 use Rattle.std.specs.Prelude.{ℕ, cond, List, [], ◌∷◌, Some, None, codes, Option, ◌==◌}
-use Rattle.std.specs.Borrow.{Bor}
 use Rattle.dictionary.specs.declared.entry.Entry.{Entry}
 use Rattle.dictionary.specs.Dictionary.{dictionary}
 
@@ -66,8 +65,3 @@ beside t (e ∷ es) (n ∷ ns) = cond (e.tag == t) (Some n) (beside t es ns)
 -- the name of a tag, where the dictionary has it
 unfoldable pub name_of : ℕ → Option (List ℕ)
 name_of t = beside t dictionary names
-
--- what each of some references points to
-abbrev pub texts : List (Bor (List ℕ)) → List (List ℕ)
-texts [] = []
-texts (r ∷ rs) = r.now ∷ texts rs

@@ -1,9 +1,9 @@
 // An entry of the dictionary, and which values may be held under it.
-ghost use Rattle.std.specs.Prelude.{◌≡◌};
-ghost use Rattle.dictionary.specs.Checks.{fits_length, fits_format, halves, all_digits, digits_then_f, next_half};
+ghost use Rattle.std.specs.Prelude.{◌≡◌, [], ◌∷◌};
+ghost use Rattle.dictionary.specs.Checks.{fits_length, fits_format, halves, all_digits, digits_then_f};
 
 // The format of a value.
-#[derive(Clone, Copy)]
+#[derive(Clone, Copy, Debug, PartialEq, Eq)]
 pub enum Format {
     // n: decimal digits, two a byte
     Numeric,
@@ -18,7 +18,7 @@ pub enum Format {
 }
 
 // Who writes an object.
-#[derive(Clone, Copy)]
+#[derive(Clone, Copy, Debug, PartialEq, Eq)]
 pub enum Writer {
     // the configuration, at opening
     Configuration,
@@ -33,7 +33,7 @@ pub enum Writer {
 }
 
 // A tag, the least and the most bytes of a value that is not empty, the format and the writer.
-#[derive(Clone, Copy)]
+#[derive(Clone, Copy, Debug, PartialEq, Eq)]
 pub struct Entry {
     pub tag: u32,
     pub least: u8,
@@ -47,7 +47,7 @@ impl Entry {
     pub fn fits_length(&self, len: usize) -> bool
         ensures { result ≡ fits_length self.now len }
     {
-        len == 0 || (self.least as usize <= len && len <= self.most as usize)
+        len == 0 || (usize::from(self.least)..=usize::from(self.most)).contains(&len)
     }
 
     // Whether the value has the digits that the format asks for.
@@ -62,45 +62,27 @@ impl Entry {
     }
 }
 
+// The half-bytes of a byte, the high one first.
+fn halves_of(byte: &u8) -> [u8; 2]
+    ensures { result ≡ halves (byte.now ∷ []) }
+{
+    [*byte / 16, *byte % 16]
+}
+
 // Whether each half-byte is a decimal digit.
 fn is_numeric(value: &[u8]) -> bool
     ensures { result ≡ all_digits (halves value.now) }
 {
-    for b in value {
-        if *b / 16 > 9 || *b % 16 > 9 {
-            return false;
-        }
-    }
-    true
-}
-
-// The next half-byte after digits, or after the padding has begun: whether it has begun then, or none where it may
-// not follow.
-fn next_half(padded: bool, half: u8) -> Option<bool>
-    ensures { result ≡ next_half padded half }
-{
-    if half == 15 {
-        Some(true)
-    } else if half < 10 && !padded {
-        Some(false)
-    } else {
-        None
-    }
+    value.iter().flat_map(halves_of).all(|half| half < 10)
 }
 
 // Whether the half-bytes are decimal digits and then only 'F'.
 fn is_compressed(value: &[u8]) -> bool
     ensures { result ≡ digits_then_f (halves value.now) }
 {
-    let mut padded = false;
-    for b in value {
-        let Some(high) = next_half(padded, *b / 16) else {
-            return false;
-        };
-        let Some(low) = next_half(high, *b % 16) else {
-            return false;
-        };
-        padded = low;
-    }
-    true
+    value
+        .iter()
+        .flat_map(halves_of)
+        .skip_while(|half| *half < 10)
+        .all(|half| half == 15)
 }

@@ -1,5 +1,5 @@
 // Looking a tag up.
-ghost use Rattle.std.specs.Prelude.{◌≡◌, true, Some, None, MatchOption};
+ghost use Rattle.std.specs.Prelude.{◌≡◌, ℕ, true, Some, None, MatchOption};
 ghost use Rattle.dictionary.specs.Dictionary.{entry_of, Listed, Unlisted, constructed};
 ghost use Rattle.dictionary.specs.Places.{StandsAt, Nowhere};
 
@@ -7,33 +7,13 @@ use crate::entry::Entry;
 use crate::table::all;
 use keyed::tag::Tag;
 
-// An entry, and its place in the table.
-#[derive(Clone, Copy)]
-pub(crate) struct Found {
-    pub(crate) index: usize,
-    pub(crate) entry: Entry,
-}
-
-// The tag's entry and its place, if it has one: a search by halves.
-pub(crate) fn find(tag: u32) -> Option<Found>
-    ensures { MatchOption result (Nowhere tag) (λ f. StandsAt tag f.index f.entry) }
+// The tag's entry, if it has one.
+fn find(tag: u32) -> Option<&'static Entry>
+    ensures { MatchOption result (Nowhere tag) (λ e. (k : ℕ) × StandsAt tag k e.now) }
 {
     let table = all();
-    let mut low = 0;
-    let mut high = table.len();
-    while low < high {
-        let mid = low + (high - low) / 2;
-        let entry = table[mid];
-        if entry.tag == tag {
-            return Some(Found { index: mid, entry });
-        }
-        if entry.tag < tag {
-            low = mid + 1;
-        } else {
-            high = mid;
-        }
-    }
-    None
+    let index = table.binary_search_by_key(&tag, |entry| entry.tag).ok()?;
+    Some(&table[index])
 }
 
 // The entry of a tag, or none where the dictionary does not have it, as at the tag of a constructed object.
@@ -42,10 +22,7 @@ pub fn lookup(tag: u32) -> Option<Entry>
     ensures cases { MatchOption result (Unlisted tag) (λ e. Listed tag e) }
     ensures primitive { constructed tag ≡ true → result ≡ None }
 {
-    match find(tag) {
-        Some(found) => Some(found.entry),
-        None => None,
-    }
+    find(tag).copied()
 }
 
 // A tag of the dictionary, with its entry.
@@ -60,15 +37,8 @@ impl Known {
     pub fn look_up(tag: u32) -> Option<Known>
         ensures { MatchOption result (entry_of tag ≡ None) (λ k. (entry_of tag ≡ Some k.entry) × (k.tag.value ≡ tag)) }
     {
-        let Some(found) = find(tag) else {
-            return None;
-        };
-        let Some(tag) = Tag::new(tag) else {
-            return None;
-        };
-        Some(Known {
-            tag,
-            entry: found.entry,
-        })
+        let entry = *find(tag)?;
+        let tag = Tag::new(tag)?;
+        Some(Known { tag, entry })
     }
 }

@@ -343,19 +343,12 @@ const TABLE: [Entry; 48] = [
     },
 ];
 
-fn table() -> &'static [Entry]
-    ensures value { result.now ≡ dictionary }
-    ensures len { length result.now ≡ 48 }
-    ensures ordered { Ordered result.now }
-{
-    &TABLE
-}
-
 // The whole dictionary, its tags rising.
+#[tactic(auto, unfolding(crate::specs::Dictionary::dictionary))]
 pub fn all() -> &'static [Entry]
     ensures value { result.now ≡ dictionary }
     ensures len { length result.now ≡ 48 }
     ensures ordered { Ordered result.now }
 {
-    table()
+    &TABLE
 }

@@ -4,7 +4,7 @@ ghost use Rattle.hexadecimal.specs.Digits.{bytes_of, digit, shown, written};
 
 use std::alloc::AllocError;
 
-// The digit of a value below 16.
+// The digit of a value below 16. Not `char::from_digit`, which gives the lower case.
 fn digit(d: u8) -> u8
     requires { d < 16 }
     ensures { result ≡ digit d }

@@ -1,17 +1,15 @@
-use Rattle.std.proofs.Common.{◌∙◌}
-use Rattle.dictionary.proofs.Halves.{digits_more, digits_high, digits_low, digits_all}
+use Rattle.std.proofs.Common.{◌≡◌, ◌∙◌, ltb, rules}
+use borrow.Author.Tests.{tests}
+use Rattle.std.specs.Array.Iter.{array_steps}
+use Rattle.std.proofs.lemmas.Iterator.{YieldsList-from_slice}
+use Rattle.std.proofs.lemmas.Iterator.Adapters.{YieldsList-from_flat_map}
+use Rattle.std.proofs.lemmas.Iterator.Search.{all_from_yields_List}
+use Rattle.dictionary.proofs.Halves.{two, two_items, numeric}
 use Rattle.dictionary.proofs.entry.is_numeric.Goals as goal
-use Rattle.dictionary.proofs.entry.is_numeric.Goals.{then-b-gt9-via-then-b-gt9, then-b-gt9-via-else-b-gt9+then-b-gt9-2}
-
-pub returns-then-b-gt9 : goal.returns-then-b-gt9
-returns-then-b-gt9 c =
-    elim c.then-b-gt9.branch [
-      | then-b-gt9-via-then-b-gt9 w ↦ digits_high _ _ c.loop-b-test.true w.if-b-gt9.true ∙ c.loop-b.invariant
-      | then-b-gt9-via-else-b-gt9+then-b-gt9-2 w ↦ digits_low _ _ c.loop-b-test.true w.if-b-gt9-2.true ∙ c.loop-b.invariant
-    ]
-
-pub loop-b-preserved : goal.loop-b-preserved
-loop-b-preserved c = digits_more _ _ c.loop-b-test.true c.if-b-gt9.false c.if-b-gt9-2.false ∙ c.loop-b.invariant
 
 pub returns : goal.returns
-returns c = digits_all _ _ c.loop-b-test.false ∙ c.loop-b.invariant
+returns c =
+    all_from_yields_List (λ h. ltb h 10) c.all.new.self _ _ c.all.ensures.ran
+    (YieldsList-from_flat_map _ _ array_steps (λ h. h) two _ (λ x u q k. (search rules, λ j e. let is : u ≡ two x.now = search rules in two_items _ (e.0 ∙ is))) (YieldsList-from_slice c.args.value.now cc) (search rules) (search rules) (search rules) (search rules))
+    (λ x b q k. search (rules, tests))
+    ∙ numeric c.args.value.now

@@ -1,26 +1,14 @@
-use Rattle.std.proofs.Common.{arith}
-use Rattle.dictionary.proofs.Search.{window_up, window_down, window_none, window_all, stands_at}
+use Rattle.std.proofs.Common.{sym, ◌∙◌, rules}
+use Rattle.std.proofs.lemmas.List.Sorted.{answers_always}
+use Rattle.dictionary.proofs.Search.{found_some, found_none}
 use Rattle.dictionary.proofs.find.find.Goals as goal
 
-pub returns-then-entry-tag : goal.returns-then-entry-tag
-returns-then-entry-tag c =
-    let here = c.loop-low.invariant.within in
-    let same = c.all-table.ensures.value in
-    simp same (stands_at _ _ _ (omega arith) (simp same at c.if-entry-tag.true))
-
-pub loop-low-preserved-then-entry-tag-2 : goal.loop-low-preserved-then-entry-tag-2
-loop-low-preserved-then-entry-tag-2 c =
-    window_up _ _ _ c.loop-low.invariant _ _ (omega arith) (simp c.all-table.ensures.value at c.if-entry-tag-2.true)
-
-pub loop-low-preserved : goal.loop-low-preserved
-loop-low-preserved c =
-    let same = c.all-table.ensures.value in
-    let le = simp same at c.if-entry-tag-2.false in
-    let ne = simp same at c.if-entry-tag.false in
-    window_down _ _ _ c.loop-low.invariant _ _ (omega arith) le ne
-
-pub loop-low-init : goal.loop-low-init
-loop-low-init c = simp c.all-table.ensures.len (window_all _)
+pub returns-in_err-index : goal.returns-in_err-index
+returns-in_err-index c =
+    let table = c.all-table.ensures.value in
+    rw c.from_residual.ensures (found_none _ _ table _ c.binary_search_by_key.ensures.bound (c.binary_search_by_key.ensures.position (λ e. e.tag) (answers_always _ _ _ (λ f a r g called. search rules))) (sym c.in_err-index.was ∙ c.ok.ensures.value))
 
 pub returns : goal.returns
-returns c = window_none _ _ _ c.loop-low.invariant c.loop-low-test.false
+returns c =
+    let table = c.all-table.ensures.value in
+    found_some _ _ table _ c.binary_search_by_key.ensures.bound (c.binary_search_by_key.ensures.position (λ e. e.tag) (answers_always _ _ _ (λ f a r g called. search rules))) _ _ c.in_ok-index.ensures.value
