@@ -1,18 +1,20 @@
 -- Parts that are appended one after the other.
-use Rattle.std.proofs.Common.{◌≡◌, ℕ, ◌/◌, ◌%◌, ◌<◌, false, cond, List, [], ◌∷◌, ◌++◌, length, is_ok, IfOk, Some, None, Ok, Err, codes, Option, Result, sym, refl, ap, ◌∙◌, ⊎_elim, append_assoc, arith}
-use Rattle.std.proofs.lemmas.Bool.{lt-ltb, le-ltb, cases_lt}
+use Rattle.std.proofs.Common.{◌≡◌, ℕ, false, cond, List, [], ◌∷◌, ◌++◌, length, is_ok, IfOk, Some, None, Ok, Err, codes, Option, Result, sym, refl, ap, ◌∙◌, append_assoc}
 use Rattle.dictionary.specs.declared.entry.Entry.{Entry}
 use Rattle.tlv.specs.declared.place.Place.{Place}
 use Rattle.tlv.specs.Series.{Reading, found, meaning, most_objects}
 use Rattle.tlv.specs.Told.{reading}
-use Rattle.tlv.specs.Written.{tag_bytes}
 use Rattle.judge.specs.declared.kind.TextKind.TheVariants.{Configuration, TerminalWrite, CardAnswer}
-use Rattle.cardtext.specs.Report.{bytes_of_tag, object_lines, count_line, taking_line, with_takings, reading_lines}
+use Rattle.cardtext.specs.Report.{object_lines, count_line, taking_line, with_takings, reading_lines}
 use Rattle.cardtext.specs.Words.{words_of, with_entry}
 
 -- a, and then b
 pub then : (before between a b : List ℕ) {after : List ℕ} → between ≡ before ++ a → after ≡ between ++ b → after ≡ before ++ (a ++ b)
 then before between a b p q = q ∙ ap (λ xs. xs ++ b) p ∙ append_assoc before a b
+
+-- f, behind five parts that were appended as one
+pub fifth : (before a b c d e f : List ℕ) {between after : List ℕ} → between ≡ before ++ (a ++ (b ++ (c ++ (d ++ e)))) → after ≡ between ++ f → after ≡ before ++ (a ++ (b ++ (c ++ (d ++ (e ++ f)))))
+fifth before a b c d e f p q = q ∙ ap (λ xs. xs ++ f) p ∙ simp append_assoc
 
 -- the last part, if there was memory for it
 pub last : {X Y : Type 0} (r : Result X Y) (before a : List ℕ) {after : List ℕ} → after ≡ cond (is_ok r) (before ++ a) before → IfOk r (λ _. after ≡ before ++ a)
@@ -23,18 +25,6 @@ last (Err y) before a p = tt
 pub always : {X Y : Type 0} (r : Result X Y) {P : Type 0} → P → IfOk r (λ _. P)
 always (Ok x) p = p
 always (Err y) p = tt
-
--- the bytes of a tag, as an object with it is written
-pub bytes_of_tag_lem : (t : ℕ) → t < 16777216 → bytes_of_tag t ≡ tag_bytes t
-bytes_of_tag_lem t h =
-    let three : t / 65536 % 256 ≡ t / 65536 = omega arith in
-    ⊎_elim
-    (λ l. let one : t % 256 ≡ t = omega arith in rw (lt-ltb t 256 l, one))
-    (λ l.
-    ⊎_elim
-    (λ k. let two : t / 256 % 256 ≡ t / 256 = omega arith in rw (le-ltb t 256 l, lt-ltb t 65536 k, two))
-    (λ k. rw (le-ltb t 256 l, le-ltb t 65536 k, three)) (cases_lt t 65536))
-    (cases_lt t 256)
 
 -- what the dictionary has of a tag stands behind what is there
 pub entry_behind : (out : List ℕ) (e : Option Entry) (n : Option (List ℕ)) → with_entry out e n ≡ out ++ with_entry [] e n

@@ -1,8 +1,7 @@
 -- What a line of the input is, and what is printed of it.
-use Rattle.std.specs.Prelude.{ℕ, ◌-◌, Bool, true, cond, ◌&&◌, ◌||◌, List, [], ◌∷◌, length, take, Some, None, vec_items, codes, Option, ◌==◌, slice_index}
+use Rattle.std.specs.Prelude.{ℕ, ◌-◌, Bool, cond, ◌||◌, List, [], length, take, Some, None, codes, Option, ◌==◌, slice_index}
+use Rattle.std.specs.List.{list_all}
 use Rattle.hexadecimal.specs.Digits.{is_blank, bytes_of}
-use Rattle.cardtext.specs.declared.Line.{Line}
-use Rattle.cardtext.specs.declared.Line.TheVariants.{Nothing, NotHexadecimal, Text}
 use Rattle.cardtext.specs.Report.{report_of}
 
 -- A line is skipped, is no text, or is the text with these bytes.
@@ -17,8 +16,7 @@ without_feed cs = cond (slice_index cs (length cs - 1) == 10) (take (length cs -
 
 -- nothing but blanks
 abbrev pub all_blank : List ℕ → Bool
-all_blank [] = true
-all_blank (c ∷ cs) = is_blank c && all_blank cs
+all_blank cs = list_all is_blank cs
 
 -- a comment starts with '#'
 abbrev pub is_comment : List ℕ → Bool
@@ -31,12 +29,6 @@ text_read (Some bs) = text_of bs
 -- what a line is, without the character that ends it
 abbrev pub line_read : List ℕ → Read
 line_read cs = cond (is_comment cs || all_blank cs) skipped (text_read (bytes_of cs))
-
--- the answer of the code
-abbrev pub line_told : Line → Read
-line_told Nothing = skipped
-line_told NotHexadecimal = no_text
-line_told (Text v) = text_of (vec_items v)
 
 abbrev pub read_printed : Read → List ℕ
 read_printed skipped = []

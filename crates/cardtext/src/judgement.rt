@@ -6,17 +6,17 @@ ghost use Rattle.dictionary.specs.Dictionary.{entry_of};
 ghost use Rattle.dictionary.specs.Names.{name_of};
 ghost use Rattle.judge.specs.Judge.{answered};
 
-use crate::report::{push_number, push_tag};
+use crate::report::push_tag;
 use dictionary::entry::Writer;
 use dictionary::find::lookup;
 use dictionary::name::name_of;
 use judge::alone::judge_alone;
 use judge::fault::{JudgeRefusal, ObjectFault, ObjectFaultKind};
 use judge::kind::TextKind;
-use std::alloc::{AllocError, Global};
+use std::alloc::AllocError;
 use tlv::place::Place;
 
-// The words for a writer.
+// The words for a writer. A `match`, since `Display` cannot be written here for a type of another crate.
 fn words_of(writer: Writer) -> &'static str
     ensures { result.now ≡ words_of writer }
 {
@@ -38,13 +38,11 @@ pub fn push_entry(out: &mut Vec<u8>, tag: u32) -> Result<(), AllocError>
     };
     out.extend_from_slice(name.as_bytes())?;
     out.extend_from_slice(b", ")?;
-    out.extend_from_slice(words_of(entry.writer).as_bytes())?;
-    Ok(())
+    out.extend_from_slice(words_of(entry.writer).as_bytes())
 }
 
 // The fault of an object.
 fn push_object_fault(
-    heap: Global,
     out: &mut Vec<u8>,
     kind: ObjectFaultKind,
     at: usize,
@@ -52,26 +50,19 @@ fn push_object_fault(
 ) -> Result<(), AllocError>
     ensures { OnOk result (out.new.items ≡ out.old.items ++ object_fault kind at tag) }
 {
-    out.extend_from_slice(b"object fault ")?;
-    push_number(heap, out, usize::from(kind.number()))?;
-    out.extend_from_slice(b" place ")?;
-    push_number(heap, out, at)?;
-    out.extend_from_slice(b" tag ")?;
+    let words = format!(in *out.allocator(); "object fault {} place {at} tag ", kind.number())?;
+    out.extend_from_slice(words.as_bytes())?;
     push_tag(out, tag)
 }
 
 // How a text is judged.
-fn push_verdict(
-    heap: Global,
-    out: &mut Vec<u8>,
-    answer: Result<usize, JudgeRefusal>,
-) -> Result<(), AllocError>
+fn push_verdict(out: &mut Vec<u8>, answer: Result<usize, JudgeRefusal>) -> Result<(), AllocError>
     ensures { OnOk result (out.new.items ≡ out.old.items ++ verdict (answered answer)) }
 {
     match answer {
         Ok(_) => out.extend_from_slice(b"ok"),
         Err(JudgeRefusal::Fault(ObjectFault::Object { kind, at, tag })) => {
-            push_object_fault(heap, out, kind, at, tag)
+            push_object_fault(out, kind, at, tag)
         }
         // A text is judged after it was read, with a work list that is long enough.
         Err(JudgeRefusal::Fault(ObjectFault::Text(_)) | JudgeRefusal::ListShort) => Ok(()),
@@ -80,7 +71,6 @@ fn push_verdict(
 
 // The line that tells how the text would be taken as one of that kind, nothing being held.
 fn push_taking(
-    heap: Global,
     out: &mut Vec<u8>,
     label: &str,
     kind: TextKind,
@@ -91,28 +81,16 @@ fn push_taking(
 {
     out.extend_from_slice(label.as_bytes())?;
     out.extend_from_slice(b": ")?;
-    push_verdict(heap, out, judge_alone(kind, text, list))?;
+    push_verdict(out, judge_alone(kind, text, list))?;
     out.extend_from_slice(b"\n")
 }
 
 // A line for each kind of text: how the text would be taken by itself, before begin.
-pub fn push_takings(
-    heap: Global,
-    out: &mut Vec<u8>,
-    text: &[u8],
-    list: &mut [Place],
-) -> Result<(), AllocError>
+pub fn push_takings(out: &mut Vec<u8>, text: &[u8], list: &mut [Place]) -> Result<(), AllocError>
     ensures { OnOk result (out.new.items ≡ with_takings out.old.items (length list.old) text.now) }
 {
     let written = TextKind::TerminalWrite { begun: false };
-    push_taking(
-        heap,
-        out,
-        "configuration",
-        TextKind::Configuration,
-        text,
-        list,
-    )?;
-    push_taking(heap, out, "terminal", written, text, list)?;
-    push_taking(heap, out, "card", TextKind::CardAnswer, text, list)
+    push_taking(out, "configuration", TextKind::Configuration, text, list)?;
+    push_taking(out, "terminal", written, text, list)?;
+    push_taking(out, "card", TextKind::CardAnswer, text, list)
 }

@@ -1,4 +1,4 @@
-// What is printed of a text.
+// What is printed of a text. It is bytes and no `String`, since digits are written behind bytes (`push_hex`).
 ghost use Rattle.std.specs.Prelude.{◌≡◌, ◌<◌, ◌++◌, length, IfOk, decimal, OnOk};
 ghost use Rattle.hexadecimal.specs.Digits.{shown};
 ghost use Rattle.tlv.specs.Series.{meaning};
@@ -20,10 +20,10 @@ const BLANK: Place = Place {
 };
 
 // A number in decimal.
-pub fn push_number(heap: Global, out: &mut Vec<u8>, n: usize) -> Result<(), AllocError>
+pub fn push_number(out: &mut Vec<u8>, n: usize) -> Result<(), AllocError>
     ensures { OnOk result (out.new.items ≡ out.old.items ++ decimal n) }
 {
-    let digits = format!(in heap; "{n}")?;
+    let digits = format!(in *out.allocator(); "{n}")?;
     out.extend_from_slice(digits.as_bytes())
 }
 
@@ -31,28 +31,21 @@ pub fn push_number(heap: Global, out: &mut Vec<u8>, n: usize) -> Result<(), Allo
 pub fn push_tag(out: &mut Vec<u8>, tag: u32) -> Result<(), AllocError>
     ensures { OnOk result (out.new.items ≡ out.old.items ++ tag_digits tag) }
 {
-    let bytes = tag.to_be_bytes();
-    if tag < 0x100 {
-        push_hex(out, &bytes[3..4])
-    } else if tag < 0x1_0000 {
-        push_hex(out, &bytes[2..4])
-    } else {
-        push_hex(out, &bytes[1..4])
-    }
+    let first = match tag {
+        0..=0xFF => 3,
+        0x100..=0xFFFF => 2,
+        _ => 1,
+    };
+    push_hex(out, &tag.to_be_bytes()[first..])
 }
 
 // The line of a primitive object: its place, its tag and its value, and what the dictionary has of the tag.
-fn push_object(
-    heap: Global,
-    out: &mut Vec<u8>,
-    text: &[u8],
-    place: &Place,
-) -> Result<(), AllocError>
+fn push_object(out: &mut Vec<u8>, text: &[u8], place: &Place) -> Result<(), AllocError>
     ensures items { OnOk result (out.new.items ≡ out.old.items ++ object_line text.now place.now) }
     ensures tag { OnOk result (place.now.tag < 16777216 → tag_digits place.now.tag ≡ shown (tag_bytes place.now.tag)) }
 {
     out.extend_from_slice(b"  ")?;
-    push_number(heap, out, place.at)?;
+    push_number(out, place.at)?;
     out.extend_from_slice(b" ")?;
     push_tag(out, place.tag)?;
     out.extend_from_slice(b" ")?;
@@ -63,60 +56,46 @@ fn push_object(
 }
 
 // A line for each primitive object.
-fn push_each(
-    heap: Global,
-    out: &mut Vec<u8>,
-    text: &[u8],
-    places: &[Place],
-) -> Result<(), AllocError>
+fn push_each(out: &mut Vec<u8>, text: &[u8], places: &[Place]) -> Result<(), AllocError>
     ensures { OnOk result (out.new.items ≡ out.old.items ++ object_lines text.now places.now) }
 {
     for place in places {
-        push_object(heap, out, text, place)?;
+        push_object(out, text, place)?;
     }
     Ok(())
 }
 
 // A line for each primitive object, and their number.
-fn push_objects(
-    heap: Global,
-    out: &mut Vec<u8>,
-    text: &[u8],
-    places: &[Place],
-) -> Result<(), AllocError>
+fn push_objects(out: &mut Vec<u8>, text: &[u8], places: &[Place]) -> Result<(), AllocError>
     ensures { OnOk result (out.new.items ≡ out.old.items ++ (object_lines text.now places.now ++ count_line (length places.now))) }
 {
-    push_each(heap, out, text, places)?;
-    out.extend_from_slice(b"ok ")?;
-    push_number(heap, out, places.len())?;
-    out.extend_from_slice(b"\n")
+    push_each(out, text, places)?;
+    let count = format!(in *out.allocator(); "ok {}\n", places.len())?;
+    out.extend_from_slice(count.as_bytes())
 }
 
 // The line of a fault.
-fn push_fault(heap: Global, out: &mut Vec<u8>, fault: TextFault) -> Result<(), AllocError>
+fn push_fault(out: &mut Vec<u8>, fault: TextFault) -> Result<(), AllocError>
     ensures { OnOk result (out.new.items ≡ out.old.items ++ fault_line fault.kind fault.at) }
 {
-    out.extend_from_slice(b"fault ")?;
-    push_number(heap, out, usize::from(fault.kind.number()))?;
-    out.extend_from_slice(b" place ")?;
-    push_number(heap, out, fault.at)?;
-    out.extend_from_slice(b"\n")
+    let line = format!(in *out.allocator(); "fault {} place {}\n", fault.kind.number(), fault.at)?;
+    out.extend_from_slice(line.as_bytes())
 }
 
 // What the reading of a text gives: its objects, their number and how it would be taken, or its fault.
-fn push_reading(heap: Global, out: &mut Vec<u8>, text: &[u8]) -> Result<(), AllocError>
+fn push_reading(out: &mut Vec<u8>, text: &[u8]) -> Result<(), AllocError>
     ensures items { OnOk result (out.new.items ≡ out.old.items ++ reading_lines text.now (meaning text.now)) }
     ensures each { OnOk result (EachTold text.now) }
 {
     let mut list = [BLANK; 64];
     match read_text(text, &mut list) {
         Ok(n) => {
-            push_objects(heap, out, text, &list[0..n])?;
-            push_takings(heap, out, text, &mut list)
+            push_objects(out, text, &list[..n])?;
+            push_takings(out, text, &mut list)
         }
-        Err(ReadRefusal::Fault(fault)) => push_fault(heap, out, fault),
+        Err(ReadRefusal::Fault(fault)) => push_fault(out, fault),
         // The work list above is long enough.
-        Err(ReadRefusal::ListShort) => unreachable(),
+        Err(ReadRefusal::ListShort) => unreachable!(),
     }
 }
 
@@ -129,6 +108,6 @@ pub fn of_text(heap: Global, text: &[u8]) -> Result<Vec<u8>, AllocError>
     out.extend_from_slice(b"text ")?;
     push_hex(&mut out, text)?;
     out.extend_from_slice(b"\n")?;
-    push_reading(heap, &mut out, text)?;
+    push_reading(&mut out, text)?;
     Ok(out)
 }

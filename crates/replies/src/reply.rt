@@ -17,14 +17,7 @@ use std::alloc::{AllocError, Global};
 use store::reading::NotCopied;
 use store::writing::Refused;
 
-// Two words, with a blank between them.
-fn spaced(heap: Global, first: &str, second: &str) -> Result<String, AllocError>
-    ensures { IfOk result (λ s. string_bytes s ≡ first.now ++ (codes " " ++ second.now)) }
-{
-    format!(in heap; "{first} {second}")
-}
-
-// Why a put is refused, in a word.
+// Why a put is refused, in a word. A `match`, since `Display` cannot be written here for a type of another crate.
 fn put_word(refusal: PutRefusal) -> &'static str
     ensures { result.now ≡ put_word refusal }
 {
@@ -35,49 +28,26 @@ fn put_word(refusal: PutRefusal) -> &'static str
     }
 }
 
-// A put that is refused, by the word for why.
-fn refused_for(heap: Global, word: &str) -> Result<String, AllocError>
-    ensures { IfOk result (λ s. string_bytes s ≡ codes "put refused " ++ word.now) }
-{
-    format!(in heap; "put refused {word}")
-}
-
-// A put that is refused.
-fn put_refused(heap: Global, refusal: PutRefusal) -> Result<String, AllocError>
-    ensures { IfOk result (λ s. string_bytes s ≡ codes "put refused " ++ put_word refusal) }
-{
-    let line = refused_for(heap, put_word(refusal))?;
-    Ok(line)
-}
-
 // A put.
 pub fn put_line(heap: Global, answer: Result<(), PutRefusal>) -> Result<String, AllocError>
     ensures { IfOk result (λ s. string_bytes s ≡ put_line answer) }
 {
     match answer {
         Ok(()) => String::from_str(heap, "put taken"),
-        Err(refusal) => put_refused(heap, refusal),
+        Err(refusal) => format!(in heap; "put refused {}", put_word(refusal)),
     }
-}
-
-// Whether a tag was held.
-fn held_word(held: bool) -> &'static str
-    ensures { result.now ≡ held_word held }
-{
-    if held { "held" } else { "absent" }
 }
 
 // A drop.
 pub fn drop_line(heap: Global, answer: Result<bool, Refusal>) -> Result<String, AllocError>
     ensures { IfOk result (λ s. string_bytes s ≡ drop_line answer) }
 {
-    match answer {
-        Ok(held) => {
-            let word = held_word(held);
-            format!(in heap; "drop {word}")
-        }
-        Err(_) => String::from_str(heap, "drop refused open"),
-    }
+    let words = match answer {
+        Ok(true) => "drop held",
+        Ok(false) => "drop absent",
+        Err(_) => "drop refused open",
+    };
+    String::from_str(heap, words)
 }
 
 // The limits of a store.
@@ -134,8 +104,7 @@ pub fn bytes_line(heap: Global, name: &str, bytes: &[u8]) -> Result<String, Allo
     ensures { IfOk result (λ s. string_bytes s ≡ name.now ++ (codes " " ++ written bytes.now)) }
 {
     let word = word_of(heap, bytes)?;
-    let line = spaced(heap, name, word.as_str())?;
-    Ok(line)
+    format!(in heap; "{name} {word}")
 }
 
 // A list, a file locator or a byte that has a fault.
@@ -149,26 +118,15 @@ pub fn fault_line(heap: Global, name: &str) -> Result<String, AllocError>
 pub fn kind_line(heap: Global, name: &str, kind: Cryptogram) -> Result<String, AllocError>
     ensures { IfOk result (λ s. string_bytes s ≡ name.now ++ (codes " " ++ kind_word kind)) }
 {
-    let line = spaced(heap, name, name_of(kind))?;
-    Ok(line)
-}
-
-// A record, with a blank before it.
-fn record_word(heap: Global, named: Record) -> Result<String, AllocError>
-    ensures { IfOk result (λ s. string_bytes s ≡ record_word named) }
-{
-    let sfi = named.sfi;
-    let number = named.number;
-    format!(in heap; " {sfi}.{number}")
+    format!(in heap; "{name} {}", name_of(kind))
 }
 
 // Writes records behind what `out` holds.
-fn push_records(heap: Global, out: &mut String, records: &[Record]) -> Result<(), AllocError>
+fn push_records(out: &mut String, records: &[Record]) -> Result<(), AllocError>
     ensures { OnOk result (string_bytes out.new ≡ string_bytes out.old ++ record_words records.now) }
 {
     for one in records {
-        let word = record_word(heap, *one)?;
-        out.push_str(word.as_str())?;
+        write!(out, " {}.{}", one.sfi, one.number)?;
     }
     Ok(())
 }
@@ -178,7 +136,7 @@ pub fn records_line(heap: Global, records: &[Record]) -> Result<String, AllocErr
     ensures { IfOk result (λ s. string_bytes s ≡ codes "afl" ++ record_words records.now) }
 {
     let mut line = String::from_str(heap, "afl")?;
-    push_records(heap, &mut line, records)?;
+    push_records(&mut line, records)?;
     Ok(line)
 }
 
@@ -201,39 +159,21 @@ pub fn refusal_line(heap: Global, name: &str, refusal: Refusal) -> Result<String
     ensures { IfOk result (λ s. string_bytes s ≡ refusal_line name.now refusal) }
 {
     let told = refusal.numbers();
-    let number = told.number;
-    let kind = told.kind;
-    let place = told.place;
-    let word = tag_word(heap, told.tag)?;
-    let tag = word.as_str();
-    format!(in heap; "{name} refused {number} kind {kind} place {place} tag {tag}")
+    let tag = tag_word(heap, told.tag)?;
+    format!(in heap;
+        "{name} refused {} kind {} place {} tag {tag}",
+        told.number, told.kind, told.place
+    )
 }
 
 // The first `n` bytes, or all if there are fewer.
 fn front(bytes: &[u8], n: usize) -> &[u8]
     ensures { result.now ≡ take n bytes.now }
 {
-    let n = n.min(bytes.len());
-    &bytes[0..n]
+    &bytes[..n.min(bytes.len())]
 }
 
-// A command that is handed out, by its word.
-fn commanded(heap: Global, name: &str, word: &str) -> Result<String, AllocError>
-    ensures { IfOk result (λ s. string_bytes s ≡ name.now ++ (codes " command " ++ word.now)) }
-{
-    format!(in heap; "{name} command {word}")
-}
-
-// A command that is handed out, in the front of the buffer.
-fn command_line(heap: Global, name: &str, buffer: &[u8], n: usize) -> Result<String, AllocError>
-    ensures { IfOk result (λ s. string_bytes s ≡ name.now ++ (codes " command " ++ written (take n buffer.now))) }
-{
-    let word = word_of(heap, front(buffer, n))?;
-    let line = commanded(heap, name, word.as_str())?;
-    Ok(line)
-}
-
-// What a call of a sale answers.
+// What a call of a sale answers; a command is the front of the buffer.
 pub fn step_line(
     heap: Global,
     name: &str,
@@ -245,7 +185,10 @@ pub fn step_line(
     match answer {
         Ok(Step::Taken) => format!(in heap; "{name} taken"),
         Ok(Step::Ended) => format!(in heap; "{name} ended"),
-        Ok(Step::Command(n)) => command_line(heap, name, buffer, n),
+        Ok(Step::Command(n)) => {
+            let word = word_of(heap, front(buffer, n))?;
+            format!(in heap; "{name} command {word}")
+        }
         Err(refusal) => refusal_line(heap, name, refusal),
     }
 }
@@ -272,15 +215,11 @@ fn carried_words(heap: Global, carried: Option<ObjectFault>) -> Result<String, A
     match carried {
         None => Ok(String::new(heap)),
         Some(ObjectFault::Text(fault)) => {
-            let kind = fault.kind.number();
-            let place = fault.at;
-            format!(in heap; " text {kind} place {place}")
+            format!(in heap; " text {} place {}", fault.kind.number(), fault.at)
         }
         Some(ObjectFault::Object { kind, at, tag }) => {
-            let kind = kind.number();
-            let word = tag_word(heap, tag)?;
-            let tag = word.as_str();
-            format!(in heap; " object {kind} place {at} tag {tag}")
+            let tag = tag_word(heap, tag)?;
+            format!(in heap; " object {} place {at} tag {tag}", kind.number())
         }
     }
 }
@@ -289,14 +228,16 @@ fn carried_words(heap: Global, carried: Option<ObjectFault>) -> Result<String, A
 fn mark_words(heap: Global, fault: RunFault, marks: Marks) -> Result<String, AllocError>
     ensures { IfOk result (λ s. string_bytes s ≡ mark_words fault marks) }
 {
-    let l1 = marks.l1;
-    let l2 = marks.l2;
-    let phase = fault.phase.number();
-    let sfi = fault.awaited.sfi;
-    let number = fault.awaited.number;
-    let word = tag_word(heap, marks.missing)?;
-    let tag = word.as_str();
-    format!(in heap; " l1 {l1} l2 {l2} phase {phase} record {sfi} {number} missing {tag}")
+    let record = fault.awaited;
+    let missing = tag_word(heap, marks.missing)?;
+    format!(in heap;
+        " l1 {} l2 {} phase {} record {} {} missing {missing}",
+        marks.l1,
+        marks.l2,
+        fault.phase.number(),
+        record.sfi,
+        record.number
+    )
 }
 
 // The fault of a run that has one.
@@ -308,29 +249,9 @@ fn fault_words(heap: Global, fault: Option<RunFault>) -> Result<String, AllocErr
         Some(fault) => {
             let marks = mark_words(heap, fault, fault.cause.marks_set())?;
             let carried = carried_words(heap, fault.cause.carried_fault())?;
-            let first = marks.as_str();
-            let second = carried.as_str();
-            format!(in heap; "{first}{second}")
+            format!(in heap; "{marks}{carried}")
         }
     }
-}
-
-// The outcome of a run, by its numbers and the words of its fault.
-fn resulted(heap: Global, number: u8, commands: u8, fault: &str) -> Result<String, AllocError>
-    ensures { IfOk result (λ s. string_bytes s ≡ codes "outcome result " ++ (decimal number ++ (codes " commands " ++ (decimal commands ++ fault.now)))) }
-{
-    format!(in heap; "outcome result {number} commands {commands}{fault}")
-}
-
-// The outcome of a run.
-fn report_line(heap: Global, report: OutcomeReport) -> Result<String, AllocError>
-    ensures { IfOk result (λ s. string_bytes s ≡ outcome_line (Ok report)) }
-{
-    let result = report.outcome.result();
-    let commands = report.commands;
-    let words = fault_words(heap, report.outcome.fault())?;
-    let line = resulted(heap, result, commands, words.as_str())?;
-    Ok(line)
 }
 
 // The outcome of a run, or why there is none.
@@ -341,7 +262,14 @@ pub fn outcome_line(
     ensures { IfOk result (λ s. string_bytes s ≡ outcome_line answer) }
 {
     match answer {
-        Ok(report) => report_line(heap, report),
+        Ok(report) => {
+            let fault = fault_words(heap, report.outcome.fault())?;
+            format!(in heap;
+                "outcome result {} commands {}{fault}",
+                report.outcome.result(),
+                report.commands
+            )
+        }
         Err(refusal) => refusal_line(heap, "outcome", refusal),
     }
 }

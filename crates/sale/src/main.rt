@@ -43,7 +43,6 @@ fn digits(heap: Global, bytes: &[u8]) -> Result<String, AllocError> {
 // Prints what a call was told.
 fn print_step(
     rt: &HostRuntime,
-    heap: Global,
     call: &str,
     told: Result<Step, Refusal>,
     buffer: &[u8],
@@ -52,15 +51,15 @@ fn print_step(
         Ok(Step::Taken) => println!(rt; "  {call}: taken"),
         Ok(Step::Ended) => println!(rt; "  {call}: the run ended"),
         Ok(Step::Command(n)) => {
-            let shown = digits(heap, &buffer[0..n.min(buffer.len())])?;
+            let shown = digits(rt.alloc(), &buffer[..n.min(buffer.len())])?;
             println!(rt; "  {call}: command {shown}")
         }
         Err(refusal) => {
             let told = refusal.numbers();
-            let number = told.number;
-            let kind = told.kind;
-            let place = told.place;
-            println!(rt; "  {call}: refused {number} kind {kind} place {place}")
+            println!(rt;
+                "  {call}: refused {} kind {} place {}",
+                told.number, told.kind, told.place
+            )
         }
     }
 }
@@ -68,82 +67,82 @@ fn print_step(
 // Prints the fault of a run that ended with result 4.
 fn print_fault(rt: &HostRuntime, fault: RunFault) -> io::Result<()> {
     let marks = fault.cause.marks_set();
-    let l1 = marks.l1;
-    let l2 = marks.l2;
-    let sfi = fault.awaited.sfi;
-    let number = fault.awaited.number;
-    println!(rt; "  fault: L1 {l1} L2 {l2} at record {sfi}.{number}")?;
-    match fault.cause.carried_fault() {
-        Some(ObjectFault::Object { kind, at, .. }) => {
-            let kind = kind.number();
-            println!(rt; "  object fault {kind} at place {at} of the record")
-        }
-        _ => Ok(()),
+    let record = fault.awaited;
+    println!(rt;
+        "  fault: L1 {} L2 {} at record {}.{}",
+        marks.l1, marks.l2, record.sfi, record.number
+    )?;
+    if let Some(ObjectFault::Object { kind, at, .. }) = fault.cause.carried_fault() {
+        println!(rt;
+            "  object fault {} at place {at} of the record",
+            kind.number()
+        )?;
     }
+    Ok(())
 }
 
 // Prints the outcome of a run.
 fn print_outcome<S: WriteStore>(rt: &HostRuntime, reader: &Reader<S>) -> io::Result<()> {
-    match reader.outcome() {
-        Ok(report) => {
-            let result = report.outcome.result();
-            let commands = report.commands;
-            println!(rt; "  outcome: result {result} after {commands} commands")?;
-            match report.outcome.fault() {
-                Some(fault) => print_fault(rt, fault),
-                None => Ok(()),
-            }
+    let Ok(report) = reader.outcome() else {
+        return rt.println("  outcome: none");
+    };
+    println!(rt;
+        "  outcome: result {} after {} commands",
+        report.outcome.result(),
+        report.commands
+    )?;
+    if let Some(fault) = report.outcome.fault() {
+        print_fault(rt, fault)?;
+    }
+    Ok(())
+}
+
+// Prints what is read out, or the words for where nothing is.
+fn print_reading<F: FnOnce(&mut [u8]) -> Result<usize, Refusal>>(
+    rt: &HostRuntime,
+    name: &str,
+    nothing: &str,
+    read: F,
+) -> io::Result<()>
+    requires { F.IsAlwaysCallable read }
+{
+    let mut out = [0; 1024];
+    match read(&mut out) {
+        Ok(n) => {
+            // Nothing says of any `read` that its length is within the buffer, so `min` does.
+            let shown = digits(rt.alloc(), &out[..n.min(1024)])?;
+            println!(rt; "  {name}: {shown}")
         }
-        Err(_) => rt.println("  outcome: none"),
+        Err(_) => println!(rt; "  {name}: {nothing}"),
     }
 }
 
 // Prints the object of a tag.
 fn print_object<S: WriteStore>(
     rt: &HostRuntime,
-    heap: Global,
     reader: &Reader<S>,
     name: &str,
     tag: u32,
 ) -> io::Result<()> {
-    let mut out = [0; 260];
-    match read_object(reader, tag, &mut out) {
-        Ok(n) => {
-            let shown = digits(heap, &out[0..n.min(260)])?;
-            println!(rt; "  {name}: {shown}")
-        }
-        Err(_) => println!(rt; "  {name}: not held"),
-    }
+    print_reading(rt, name, "not held", |out| read_object(reader, tag, out))
 }
 
 // Prints what the host reads out after a sale.
-fn print_readings<S: WriteStore>(
-    rt: &HostRuntime,
-    heap: Global,
-    reader: &Reader<S>,
-) -> io::Result<()> {
-    let mut out = [0; 1024];
-    if let Some(blank) = Tag::new(0) {
-        let mut tags = [blank; 64];
-        if let Ok(n) = read_wanted(reader, &mut tags, &mut out) {
-            let shown = digits(heap, &out[0..n.min(1024)])?;
-            println!(rt; "  wanted objects: {shown}")?;
-        }
-    }
-    match read_record(reader, &mut out) {
-        Ok(n) => {
-            let shown = digits(heap, &out[0..n.min(1024)])?;
-            println!(rt; "  Data Record: {shown}")?;
-        }
-        Err(_) => rt.println("  Data Record: none")?,
-    }
-    print_object(rt, heap, reader, "floor limit", 0xDF_8123)
+fn print_readings<S: WriteStore>(rt: &HostRuntime, reader: &Reader<S>) -> io::Result<()> {
+    let mut tags = [Tag::new(0).unwrap(); 64];
+    print_reading(
+        rt,
+        "wanted objects",
+        "none",
+        |out| read_wanted(reader, &mut tags, out),
+    )?;
+    print_reading(rt, "Data Record", "none", |out| read_record(reader, out))?;
+    print_object(rt, reader, "floor limit", 0xDF_8123)
 }
 
 // The card gives its answers.
 fn give_all<S: WriteStore>(
     rt: &HostRuntime,
-    heap: Global,
     reader: &mut Reader<S>,
     answers: &[&[u8]],
     buffer: &mut [u8],
@@ -151,7 +150,7 @@ fn give_all<S: WriteStore>(
 ) -> io::Result<()> {
     for answer in answers {
         let told = reader.answer(answer, buffer, list);
-        print_step(rt, heap, "answer", told, buffer)?;
+        print_step(rt, "answer", told, buffer)?;
     }
     Ok(())
 }
@@ -159,7 +158,6 @@ fn give_all<S: WriteStore>(
 // One sale, from the terminal's objects to the outcome.
 fn sell<S: WriteStore>(
     rt: &HostRuntime,
-    heap: Global,
     reader: &mut Reader<S>,
     fci: &[u8],
     answers: &[&[u8]],
@@ -167,36 +165,35 @@ fn sell<S: WriteStore>(
     let mut buffer = [0; 261];
     let mut list = [BLANK; 64];
     let told = reader.write(&SALE, &mut list);
-    print_step(rt, heap, "write", told, &buffer)?;
+    print_step(rt, "write", told, &buffer)?;
     let told = reader.begin(fci, &mut buffer, &mut list);
-    print_step(rt, heap, "begin", told, &buffer)?;
-    give_all(rt, heap, reader, answers, &mut buffer, &mut list)?;
+    print_step(rt, "begin", told, &buffer)?;
+    give_all(rt, reader, answers, &mut buffer, &mut list)?;
     print_outcome(rt, reader)?;
-    print_readings(rt, heap, reader)?;
+    print_readings(rt, reader)?;
     let told = reader.clear();
-    print_step(rt, heap, "clear", told, &buffer)
+    print_step(rt, "clear", told, &buffer)
 }
 
 // The sales of two cards at a reader over a new store.
-fn two_sales<S: WriteStore + Drop>(rt: &HostRuntime, heap: Global, store: S) -> io::Result<()> {
+fn two_sales<S: WriteStore + Drop>(rt: &HostRuntime, store: S) -> io::Result<()> {
     let mut reader = Reader::new(store);
     let mut list = [BLANK; 64];
     rt.println("A reader is opened")?;
     let told = reader.open(SHARES, &CONFIGURATION, &mut list);
-    print_step(rt, heap, "open", told, &[])?;
+    print_step(rt, "open", told, &[])?;
     rt.println("A card whose label is empty")?;
     sell(
         rt,
-        heap,
         &mut reader,
         &EMPTY_LABEL,
         &[&OPTIONS, &PAN_AND_EXPIRY, &SEQUENCE, &APPROVAL],
     )?;
     rt.println("A card whose record carries the tag of our floor limit")?;
-    sell(rt, heap, &mut reader, &LABEL, &[&OPTIONS, &OUR_FLOOR_LIMIT])
+    sell(rt, &mut reader, &LABEL, &[&OPTIONS, &OUR_FLOOR_LIMIT])
 }
 
-// The words for a call.
+// The words for a call. A `match`, since `Display` cannot be written for a type of another crate.
 fn name_of(call: Call) -> &'static str {
     match call {
         Call::Write(_) => "write",
@@ -217,13 +214,15 @@ fn with_list(call: Call<'_>, list: usize) -> Asked<'_> {
     }
 }
 
-// Prints the replies to calls.
+// Prints the replies to the calls that were made. Not by `print_step`: no buffer stands beside a reply, so a command is
+// told by its length, and a refusal without its place.
 fn print_replies(
     rt: &HostRuntime,
     calls: &[Asked],
     replies: &[Result<Step, Refusal>],
+    made: usize,
 ) -> io::Result<()> {
-    for (asked, reply) in calls.iter().zip(replies.iter()) {
+    for (asked, reply) in calls.iter().zip(replies).take(made) {
         let name = name_of(asked.call);
         match *reply {
             Ok(Step::Taken) => println!(rt; "  {name}: taken")?,
@@ -231,9 +230,7 @@ fn print_replies(
             Ok(Step::Command(n)) => println!(rt; "  {name}: a command of {n} bytes")?,
             Err(refusal) => {
                 let told = refusal.numbers();
-                let number = told.number;
-                let kind = told.kind;
-                println!(rt; "  {name}: refused {number} kind {kind}")?
+                println!(rt; "  {name}: refused {} kind {}", told.number, told.kind)?
             }
         }
     }
@@ -241,16 +238,15 @@ fn print_replies(
 }
 
 // Prints our own objects.
-fn print_own<S: WriteStore>(rt: &HostRuntime, heap: Global, reader: &Reader<S>) -> io::Result<()> {
-    print_object(rt, heap, reader, "floor limit", 0xDF_8123)?;
-    print_object(rt, heap, reader, "amount", 0x9F02)?;
-    print_object(rt, heap, reader, "wanted tags", 0xDF_8112)
+fn print_own<S: WriteStore>(rt: &HostRuntime, reader: &Reader<S>) -> io::Result<()> {
+    print_object(rt, reader, "floor limit", 0xDF_8123)?;
+    print_object(rt, reader, "amount", 0x9F02)?;
+    print_object(rt, reader, "wanted tags", 0xDF_8112)
 }
 
 // Two cards at two readers, over new stores of two makes; the terminal asks the same of both.
 fn two_readers<S: WriteStore + Drop, T: WriteStore + Drop>(
     rt: &HostRuntime,
-    heap: Global,
     store: S,
     other: T,
 ) -> io::Result<()> {
@@ -294,37 +290,23 @@ fn two_readers<S: WriteStore + Drop, T: WriteStore + Drop>(
         &mut other_replies,
     );
     rt.println("The first reader")?;
-    print_replies(rt, &calls[0..made.first.unwrap_or(0).min(9)], &replies)?;
+    print_replies(rt, &calls, &replies, made.first.unwrap_or(0))?;
     print_outcome(rt, &first)?;
-    print_own(rt, heap, &first)?;
+    print_own(rt, &first)?;
     rt.println("The second reader")?;
-    print_replies(
-        rt,
-        &others[0..made.second.unwrap_or(0).min(8)],
-        &other_replies,
-    )?;
+    print_replies(rt, &others, &other_replies, made.second.unwrap_or(0))?;
     print_outcome(rt, &second)?;
-    print_own(rt, heap, &second)
-}
-
-// Two readers, the second over a masked store.
-fn bare_and_masked<S: WriteStore + Drop, T: WriteStore + Drop>(
-    rt: &HostRuntime,
-    heap: Global,
-    store: S,
-    lower: T,
-) -> io::Result<()> {
-    two_readers(rt, heap, store, Masking::new(lower, [0xA5; 256]))
+    print_own(rt, &second)
 }
 
 fn main(rt: HostRuntime) -> io::Result<()> {
-    let heap = rt.alloc();
     let mut area = [0; 720];
-    two_sales(&rt, heap, Strip::new(&mut area, 64))?;
+    two_sales(&rt, Strip::new(&mut area, 64))?;
     rt.println("Both cards at two readers side by side: a directory, and a masked strip")?;
     let mut slots = [Slot { tag: 0, size: 0 }; 64];
     let mut values = [0; 400];
     let directory = Directory::new(&mut slots, &mut values);
     let mut other_area = [0; 720];
-    bare_and_masked(&rt, heap, directory, Strip::new(&mut other_area, 64))
+    let masked = Masking::new(Strip::new(&mut other_area, 64), [0xA5; 256]);
+    two_readers(&rt, directory, masked)
 }

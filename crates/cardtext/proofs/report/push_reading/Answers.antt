@@ -1,5 +1,4 @@
-use Rattle.std.proofs.Common.{◌≡◌, ◌-◌, length, take, vec_items, sym, ap, ◌∙◌}
-use native.Mathlib.Nat.{sub-zero}
+use Rattle.std.proofs.Common.{◌≡◌, length, take, vec_items}
 use Rattle.std.proofs.lemmas.Result.{IfOk-weaker}
 use Rattle.tlv.specs.Series.{found, meaning}
 use Rattle.cardtext.proofs.Joining.{always, read_well, same_reading}
@@ -8,17 +7,14 @@ use Rattle.cardtext.proofs.report.push_reading.Goals as goal
 
 pub returns-in_ok-push_objects-in-Ok : goal.returns-in_ok-push_objects-in-Ok
 returns-in_ok-push_objects-in-Ok c =
-    let n = c.in-Ok.n in
     let places = c.read_text.new.list in
     let text = c.args.text.now in
-    let meant : meaning text ≡ found (take (n - 0) places) =
-    same_reading _ _ c.in-Ok.ensures.read ∙ ap (λ k. found (take k places)) (sym (sub-zero n)) in
+    let front = take c.in-Ok.n places in
+    let meant : meaning text ≡ found front = same_reading _ _ c.in-Ok.ensures.read in
     record {
       items =
           IfOk-weaker c.push_takings.result _ _
-          (λ x e.
-          read_well text (vec_items c.args.out.now) (vec_items c.push_objects.new.out) (take (n - 0) places) (length places)
-          meant c.read_text.auto.list c.in_ok-push_objects-in-Ok.ensures e)
+          (λ x e. read_well text (vec_items c.args.out.now) (vec_items c.push_objects.new.out) front (length places) meant c.read_text.auto.list c.in_ok-push_objects-in-Ok.ensures e)
           c.push_takings.ensures;
       each = always c.push_takings.result (each_told text);
     }
