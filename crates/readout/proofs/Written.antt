@@ -12,7 +12,7 @@ use Rattle.store.specs.Answer.{copy_after}
 use Rattle.tlv.specs.declared.write.WriteRefusal.{WriteRefusal}
 use Rattle.tlv.specs.declared.write.WriteRefusal.TheVariants.{NoTag, TooLong, Short}
 use Rattle.tlv.specs.Objects.{object, seen, marks_constructed}
-use Rattle.tlv.specs.Written.{is_tag, tag_bytes, length_bytes, head_bytes, object_bytes, at_front, write_answer}
+use Rattle.tlv.specs.Written.{is_tag, tag_bytes, length_bytes, head_bytes, object_bytes, at_front, write_answer, write_after}
 use Rattle.tlv.proofs.Writing.{reads_back}
 use Rattle.readout.specs.declared.object.Absent.{Absent}
 use Rattle.readout.specs.declared.object.Absent.TheVariants.{LeftOut, Empty}
