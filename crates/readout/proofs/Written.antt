@@ -1,10 +1,11 @@
 -- One object written, and what reading a series of them gives.
-use Rattle.std.proofs.Common.{◌≡◌, ℕ, zero, suc, ◌+◌, ◌-◌, ◌/◌, ◌%◌, ◌<◌, ◌≤◌, Bool, true, false, cond, not, ◌&&◌, eqb, ltb, List, [], ◌∷◌, ◌++◌, length, get_or, take, drop, IfSome, Some, None, Ok, Err, Option, Result, sym, refl, ap, ◌∙◌, arith, length-append, eq-eqb, ne_eqb}
+use Rattle.std.proofs.Common.{◌≡◌, ℕ, zero, suc, ◌+◌, ◌-◌, ◌/◌, ◌%◌, ◌<◌, ◌≤◌, Bool, true, false, cond, not, ◌&&◌, eqb, ltb, List, [], ◌∷◌, ◌++◌, length, get_or, take, drop, map, sum, IfSome, Some, None, Ok, Err, Option, Result, sym, refl, ap, ◌∙◌, arith, length-append, eq-eqb, ne_eqb}
 use borrow.Rule.Slice.PartMut.{put_mid}
 use Rattle.std.proofs.lemmas.Slice.{take-put_mid, drop-put_mid}
 use Rattle.std.proofs.lemmas.Bool.{le-ltb, cond-true, cond-false}
 use Rattle.std.proofs.lemmas.List.{take_at, append-nil, append_assoc}
-use Rattle.std.specs.List.{AllByRecursion}
+use Rattle.std.proofs.lemmas.List.Sums.{sum-map, sum_by-cons}
+use Rattle.std.specs.List.{AllByRecursion, sum_by}
 use Rattle.std.specs.Option.{option_map}
 use Rattle.std.specs.Result.{result_unwrap_or}
 use Rattle.store.specs.Map.{Map}
@@ -153,6 +154,16 @@ some_of (x ∷ xs) n e =
 pub only_at : (a : Absent) (ts : List ℕ) → OnlyAt a ts
 only_at a [] m n h = refl
 only_at a (t ∷ ts) m n h = ap (λ o. shown a t o ++ objects_at a ts m) h.0 ∙ ap (λ xs. shown a t (n t) ++ xs) (only_at a ts m n h.1)
+
+-- the sizes of the objects of tags
+pub sum_sizes : (a : Absent) (ts : List ℕ) (m : Map) → sum (map (λ t. length (bytes_of (shown a t (m t)))) ts) ≡ length (bytes_of (objects_at a ts m))
+sum_sizes a ts m = sum-map (λ t. length (bytes_of (shown a t (m t)))) ts ∙ by ts
+  where
+    by : (ts : List ℕ) → sum_by (λ t. length (bytes_of (shown a t (m t)))) ts ≡ length (bytes_of (objects_at a ts m))
+    by [] = refl
+    by (t ∷ ts) =
+        sum_by-cons (λ t. length (bytes_of (shown a t (m t)))) t ts ∙ ap (λ n. length (bytes_of (shown a t (m t))) + n) (by ts)
+        ∙ sym (ap length (bytes_append (shown a t (m t)) (objects_at a ts m)) ∙ length-append (bytes_of (shown a t (m t))) (bytes_of (objects_at a ts m)))
 
 -- a part of a buffer written over
 module _ (a k n : ℕ) (xs ys zs : List ℕ) (e : ys ≡ zs) (s : n ≡ a + length zs) (t : k ≡ length zs) (h : n ≤ length xs) where

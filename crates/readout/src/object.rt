@@ -1,5 +1,5 @@
 // Writes the objects of tags into a buffer.
-ghost use Rattle.std.specs.Prelude.{◌≡◌, ◌+◌, ◌≤◌, ◌++◌, length, take, drop};
+ghost use Rattle.std.specs.Prelude.{◌≡◌, ◌+◌, ◌≤◌, ◌++◌, length, map, sum, take, drop};
 ghost use Rattle.tlv.specs.Written.{at_front};
 ghost use Rattle.readout.specs.Shown.{shown, objects_at, bytes_of, ReadsAs};
 ghost use Rattle.readout.specs.Steps.{Fetched, whole};
@@ -86,8 +86,7 @@ fn put_shown<S: ReadStore>(store: &S, absent: Absent, tag: u32, out: &mut [u8], 
 // How many bytes the objects that are shown for tags have.
 fn sizes_of<S: ReadStore>(store: &S, absent: Absent, tags: &[u32]) -> usize
     requires { length tags.now ≤ 64 }
-    ensures value { result ≡ length (bytes_of (objects_at absent tags.now (S.held store.now))) }
-    ensures only { OnlyAt absent tags.now }
+    ensures { result ≡ sum (map (λ t. length (bytes_of (shown absent t (S.held store.now t)))) tags.now) }
 {
     tags.iter().map(|tag| size_of(store, absent, *tag)).sum()
 }
