@@ -24,8 +24,8 @@ fn listed_tags<S: ReadStore>(
     ensures few { IfOk result (λ n. n ≤ 64) }
 {
     let mut value = [0u8; 255];
-    let n = fetch(store, 0xDF_8112, &mut value).unwrap_or(0);
-    read_tags(&value[0..n], list, tags)
+    let text = fetch(store, 0xDF_8112, &mut value).unwrap_or(&[]);
+    read_tags(text, list, tags)
 }
 
 // Writes the wanted objects, with a work list of 64 tags.
