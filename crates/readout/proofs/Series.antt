@@ -1,7 +1,7 @@
 -- Objects written one after the other.
 use Rattle.std.proofs.Common.{◌≡◌, ℕ, suc, ◌+◌, ◌<◌, ◌≤◌, ltb, List, ◌++◌, length, get_or, take, drop, Some, Ok, Err, sym, ap, ◌∙◌, arith}
 use Rattle.std.proofs.lemmas.List.{at_drop_more, at_drop_all, length-append, append_assoc, append-nil, take-append-drop, take_at, drop-drop}
-use Rattle.std.proofs.lemmas.Bool.{cond-false, le-ltb}
+use Rattle.std.proofs.lemmas.Bool.{cond-true, cond-false, le-ltb, lt-ltb}
 use Rattle.store.specs.Map.{Map}
 use Rattle.tlv.specs.Written.{at_front}
 use Rattle.readout.specs.declared.object.Absent.{Absent}
@@ -58,6 +58,9 @@ done at i a ts m out now h o =
 
 pub fit : (n k : ℕ) (bs : List ℕ) → k ≡ length bs → k ≤ n → Ok k ≡ fit_answer bs n
 fit n k bs e h = ap Ok e ∙ sym (cond-false (ltb n (length bs)) (Err Short) (Ok (length bs)) (le-ltb n (length bs) (omega arith)))
+
+pub short : (n k : ℕ) (bs : List ℕ) → k ≡ length bs → n < k → Err Short ≡ fit_answer bs n
+short n k bs e h = sym (cond-true (ltb n (length bs)) (Err Short) (Ok (length bs)) (lt-ltb n (length bs) (omega arith)))
 
 pub read_back : (n : ℕ) (a : Absent) (ts : List ℕ) (m : Map) (out out' : List ℕ) → n ≡ length (series a ts m) → out' ≡ at_front (series a ts m) out → objects_in (take n out') ≡ Some (objects_at a ts m)
 read_back n a ts m out out' e f =

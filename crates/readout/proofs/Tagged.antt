@@ -71,19 +71,6 @@ pub whole_tag : (bs : List ℕ) (t : ℕ) (rest : List ℕ) → 1 ≤ length bs 
 whole_tag [] t rest l h n e = absurd (omega arith)
 whole_tag (a ∷ bs) t rest l h n e = let P : TagRead → Type 0 = λ r. WholeIn r in subst P (sym e) (first a n (h 0) bs (h 1))
 
--- what stands next
-pub next_end : (e : ℕ) (bs : List ℕ) → length bs < 1 → end ≡ next_of e bs
-next_end e [] h = refl
-next_end e (b ∷ bs) h = absurd (omega arith)
-
-pub next_filler : (e : ℕ) (bs : List ℕ) → 1 ≤ length bs → get_or bs 0 0 ≡ 0 → filler (take (length bs - 1) (drop 1 bs)) ≡ next_of e bs
-next_filler e [] h z = absurd (omega arith)
-next_filler e (b ∷ bs) h z = ap filler (take_rest (b ∷ bs) 1) ∙ sym (cond-true (eqb b 0) _ _ (eq-eqb b 0 z))
-
-pub next_tag : (e : ℕ) (bs : List ℕ) (r : TagRead) → 1 ≤ length bs → (get_or bs 0 0 ≡ 0 → ⊥) → r ≡ tag_at bs → tagged (e - length bs) r ≡ next_of e bs
-next_tag e [] r h n q = absurd (omega arith)
-next_tag e (b ∷ bs) r h n q = ap (tagged (e - length (b ∷ bs))) q ∙ sym (cond-false (eqb b 0) _ _ (ne_eqb b 0 n))
-
 -- the tags of a list, by what stands next in it
 abbrev pub follow : (List ℕ → Listed) → Next → Listed
 follow again end = done

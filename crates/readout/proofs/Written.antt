@@ -1,10 +1,11 @@
 -- One object written, and what reading a series of them gives.
-use Rattle.std.proofs.Common.{◌≡◌, ℕ, zero, suc, ◌+◌, ◌-◌, ◌/◌, ◌%◌, ◌<◌, ◌≤◌, Bool, true, false, cond, not, ◌&&◌, eqb, ltb, List, [], ◌∷◌, ◌++◌, length, get_or, take, drop, IfSome, Some, None, Ok, Err, Option, Result, sym, refl, ap, ◌∙◌, arith, length-append, eq-eqb, ne_eqb}
+use Rattle.std.proofs.Common.{◌≡◌, ℕ, zero, suc, ◌+◌, ◌-◌, ◌/◌, ◌%◌, ◌<◌, ◌≤◌, Bool, true, false, cond, not, ◌&&◌, eqb, ltb, List, [], ◌∷◌, ◌++◌, length, get_or, take, drop, map, sum, IfSome, Some, None, Ok, Err, Option, Result, sym, refl, ap, ◌∙◌, arith, length-append, eq-eqb, ne_eqb}
 use borrow.Rule.Slice.PartMut.{put_mid}
 use Rattle.std.proofs.lemmas.Slice.{take-put_mid, drop-put_mid}
 use Rattle.std.proofs.lemmas.Bool.{le-ltb, cond-true, cond-false}
 use Rattle.std.proofs.lemmas.List.{take_at, append-nil, append_assoc}
-use Rattle.std.specs.List.{AllByRecursion}
+use Rattle.std.proofs.lemmas.List.Sums.{sum-map, sum_by-cons}
+use Rattle.std.specs.List.{AllByRecursion, sum_by}
 use Rattle.std.specs.Option.{option_map}
 use Rattle.std.specs.Result.{result_unwrap_or}
 use Rattle.store.specs.Map.{Map}
@@ -12,23 +13,14 @@ use Rattle.store.specs.Answer.{copy_after}
 use Rattle.tlv.specs.declared.write.WriteRefusal.{WriteRefusal}
 use Rattle.tlv.specs.declared.write.WriteRefusal.TheVariants.{NoTag, TooLong, Short}
 use Rattle.tlv.specs.Objects.{object, seen, marks_constructed}
-use Rattle.tlv.specs.Written.{is_tag, tag_bytes, length_bytes, head_bytes, object_bytes, at_front, write_answer}
+use Rattle.tlv.specs.Written.{is_tag, tag_bytes, length_bytes, head_bytes, object_bytes, at_front, write_answer, write_after}
 use Rattle.tlv.proofs.Writing.{reads_back}
 use Rattle.readout.specs.declared.object.Absent.{Absent}
 use Rattle.readout.specs.declared.object.Absent.TheVariants.{LeftOut, Empty}
 use Rattle.readout.specs.Shown.{Object, object_of, given, shown, objects_at, bytes_of, on_next, objects_by, AllTags}
 use Rattle.readout.specs.Output.{some}
 use Rattle.readout.specs.Laws.{OnlyAt}
-use Rattle.readout.specs.Steps.{whole, Fetched}
-
--- a value copied out into a buffer of 255 bytes
-pub fetched : (o : Option (List ℕ)) (n : ℕ) (buffer after : List ℕ) → Some n ≡ option_map length o → IfSome o (λ v. length v ≤ 255) → length buffer ≡ 255
-    → after ≡ copy_after o buffer → Fetched (Some n) o after
-fetched None n buffer after e k l c = let z : ◌≡◌ {A = ℕ} 0 1 = cc in absurd (omega arith)
-fetched (Some v) n buffer after e k l c =
-    let q : n ≡ length v = cc in
-    let f = c ∙ cond-false (ltb (length buffer) (length v)) _ _ (le-ltb (length buffer) (length v) (omega arith)) in
-    (ap Some (sym (ap (take n) f ∙ take_at v (drop (length v) buffer) n (sym q))), omega arith)
+use Rattle.readout.specs.Steps.{whole}
 
 -- the sizes of an object
 tag_size : (t : ℕ) → (1 ≤ length (tag_bytes t)) × (length (tag_bytes t) ≤ 3)
@@ -75,23 +67,19 @@ pub whole_none : (t : ℕ) (v : List ℕ) → is_tag t ≡ false → bytes_of (w
 whole_none t v h = ap bytes_of (cond-false (is_tag t) (object_of t v ∷ []) [] h)
 
 module _ (t room : ℕ) (v : List ℕ) (few : length v ≤ 255) (fits : 260 ≤ room) where
-  pub written : (size : ℕ) (out out' : List ℕ) → Ok size ≡ write_answer t v room → out' ≡ at_front (object_bytes t v) out
-      → (size ≡ length (bytes_of (whole t v))) × (take size out' ≡ bytes_of (whole t v)) × (size ≤ 260)
+  written : (size : ℕ) (out out' : List ℕ) → Ok size ≡ write_answer t v room → out' ≡ at_front (object_bytes t v) out → take size out' ≡ bytes_of (whole t v)
   written size out out' e a =
       let p = taken (is_tag t) (ltb 255 (length v)) (ltb room (length (object_bytes t v))) size (length (object_bytes t v)) e in
-      let w = whole_bytes t v p.0 in
-      let s = object_size t v in
-      (p.1 ∙ sym (ap length w), ap (take size) a ∙ take_at (object_bytes t v) (drop (length (object_bytes t v)) out) size (sym p.1) ∙ sym w, omega (arith, p.1, s.1))
+      ap (take size) a ∙ take_at (object_bytes t v) (drop (length (object_bytes t v)) out) size (sym p.1) ∙ sym (whole_bytes t v p.0)
 
-  pub unwritten : (k : WriteRefusal) → Err k ≡ write_answer t v room → bytes_of (whole t v) ≡ []
+  unwritten : (k : WriteRefusal) → Err k ≡ write_answer t v room → bytes_of (whole t v) ≡ []
   unwritten k e =
       let s = object_size t v in
       whole_none t v (refused (is_tag t) (ltb 255 (length v)) (ltb room (length (object_bytes t v))) k (length (object_bytes t v)) e (le-ltb 255 (length v) few) (le-ltb room (length (object_bytes t v)) (omega (arith, s.1))))
 
-  pub put_bytes : (n : ℕ) (r : Result ℕ WriteRefusal) (out out' : List ℕ) → r ≡ write_answer t v room → out' ≡ write_after r t v out → n ≡ result_unwrap_or r 0
-      → (n ≡ length (bytes_of (whole t v))) × (take n out' ≡ bytes_of (whole t v)) × (n ≤ 260)
-  put_bytes n (Ok size) out out' e a is = let w = written size out out' e a in (is ∙ w.0, ap (λ k. take k out') is ∙ w.1, omega (arith, w.2))
-  put_bytes n (Err k) out out' e a is = let w = unwritten k e in (is ∙ sym (ap length w), ap (λ k. take k out') is ∙ sym w, omega arith)
+  pub put_bytes : (n : ℕ) (r : Result ℕ WriteRefusal) (out out' : List ℕ) → r ≡ write_answer t v room → out' ≡ write_after r t v out → n ≡ result_unwrap_or r 0 → take (n - 0) out' ≡ bytes_of (whole t v)
+  put_bytes n (Ok size) out out' e a is = let z : n - 0 ≡ size = omega arith in ap (λ k. take k out') z ∙ written size out out' e a
+  put_bytes n (Err k) out out' e a is = let z : n - 0 ≡ 0 = omega arith in ap (λ k. take k out') z ∙ sym (unwritten k e)
 
 -- bytes of one series after another
 pub bytes_append : (xs ys : List Object) → bytes_of (xs ++ ys) ≡ bytes_of xs ++ bytes_of ys
@@ -153,6 +141,16 @@ some_of (x ∷ xs) n e =
 pub only_at : (a : Absent) (ts : List ℕ) → OnlyAt a ts
 only_at a [] m n h = refl
 only_at a (t ∷ ts) m n h = ap (λ o. shown a t o ++ objects_at a ts m) h.0 ∙ ap (λ xs. shown a t (n t) ++ xs) (only_at a ts m n h.1)
+
+-- the sizes of the objects of tags
+pub sum_sizes : (a : Absent) (ts : List ℕ) (m : Map) → sum (map (λ t. length (bytes_of (shown a t (m t)))) ts) ≡ length (bytes_of (objects_at a ts m))
+sum_sizes a ts m = sum-map (λ t. length (bytes_of (shown a t (m t)))) ts ∙ by ts
+  where
+    by : (ts : List ℕ) → sum_by (λ t. length (bytes_of (shown a t (m t)))) ts ≡ length (bytes_of (objects_at a ts m))
+    by [] = refl
+    by (t ∷ ts) =
+        sum_by-cons (λ t. length (bytes_of (shown a t (m t)))) t ts ∙ ap (λ n. length (bytes_of (shown a t (m t))) + n) (by ts)
+        ∙ sym (ap length (bytes_append (shown a t (m t)) (objects_at a ts m)) ∙ length-append (bytes_of (shown a t (m t))) (bytes_of (objects_at a ts m)))
 
 -- a part of a buffer written over
 module _ (a k n : ℕ) (xs ys zs : List ℕ) (e : ys ≡ zs) (s : n ≡ a + length zs) (t : k ≡ length zs) (h : n ≤ length xs) where

@@ -1,8 +1,8 @@
 // Writes the objects of tags into a buffer.
-ghost use Rattle.std.specs.Prelude.{◌≡◌, ◌+◌, ◌≤◌, ◌++◌, length, take, drop};
+ghost use Rattle.std.specs.Prelude.{◌≡◌, ◌+◌, ◌≤◌, ◌++◌, IfSome, length, map, sum, take, drop};
 ghost use Rattle.tlv.specs.Written.{at_front};
 ghost use Rattle.readout.specs.Shown.{shown, objects_at, bytes_of, ReadsAs};
-ghost use Rattle.readout.specs.Steps.{Fetched, whole};
+ghost use Rattle.readout.specs.Steps.{fetched, whole};
 ghost use Rattle.readout.specs.Laws.{OnlyAt};
 ghost use Rattle.readout.specs.Output.{fit_answer, write_after};
 
@@ -18,36 +18,44 @@ pub(crate) enum Absent {
     Empty,
 }
 
-// Copies the value of a tag to the front of `value`: its length, none if the tag is not held.
-pub(crate) fn fetch<S: ReadStore>(store: &S, tag: u32, value: &mut [u8; 255]) -> Option<usize>
-    ensures { Fetched result (S.held store.now tag) value.new }
+// The value of a tag, in the front of `buffer`; none if the tag is not held.
+pub(crate) fn fetch<'b, S: ReadStore>(
+    store: &S,
+    tag: u32,
+    buffer: &'b mut [u8; 255],
+) -> Option<&'b [u8]>
+    ensures value { fetched result ≡ S.held store.now tag }
+    ensures small { IfSome result (λ v. length v.now ≤ 255) }
 {
-    store.copy_out(Tag::new(tag)?, value).ok()
+    let n = store.copy_out(Tag::new(tag)?, buffer).ok()?;
+    Some(&buffer[0..n])
 }
 
-// Writes an object to the front of `room`: how many bytes; none if the number is no tag's.
-fn object_bytes(tag: u32, value: &[u8], room: &mut [u8; 260]) -> usize
+// An object, in the front of `room`; nothing if the number is no tag's.
+fn object_bytes<'r>(tag: u32, value: &[u8], room: &'r mut [u8; 260]) -> &'r [u8]
     requires { length value.now ≤ 255 }
-    ensures value { result ≡ length (bytes_of (whole tag value.now)) }
-    ensures front { take result room.new ≡ bytes_of (whole tag value.now) }
-    ensures small { result ≤ 260 }
+    ensures value { result.now ≡ bytes_of (whole tag value.now) }
+    ensures small { length result.now ≤ 260 }
 {
-    write_object(tag, value, room).unwrap_or(0)
+    let n = write_object(tag, value, room).unwrap_or(0);
+    &room[0..n]
 }
 
-// Writes the object that is shown for a tag to the front of `room`: how many bytes.
-fn shown_bytes<S: ReadStore>(store: &S, absent: Absent, tag: u32, room: &mut [u8; 260]) -> usize
-    ensures value { result ≡ length (bytes_of (shown absent tag (S.held store.now tag))) }
-    ensures front { take result room.new ≡ bytes_of (shown absent tag (S.held store.now tag)) }
-    ensures small { result ≤ 260 }
+// The object that is shown for a tag, in the front of `room`.
+fn shown_bytes<'r, S: ReadStore>(
+    store: &S,
+    absent: Absent,
+    tag: u32,
+    room: &'r mut [u8; 260],
+) -> &'r [u8]
+    ensures value { result.now ≡ bytes_of (shown absent tag (S.held store.now tag)) }
+    ensures small { length result.now ≤ 260 }
 {
-    let mut value = [0u8; 255];
-    match fetch(store, tag, &mut value) {
-        Some(n) => object_bytes(tag, &value[0..n], room),
-        None => match absent {
-            Absent::LeftOut => 0,
-            Absent::Empty => object_bytes(tag, &[], room),
-        },
+    let mut buffer = [0u8; 255];
+    match (fetch(store, tag, &mut buffer), absent) {
+        (Some(value), _) => object_bytes(tag, value, room),
+        (None, Absent::LeftOut) => &[],
+        (None, Absent::Empty) => object_bytes(tag, &[], room),
     }
 }
 
@@ -57,7 +65,7 @@ pub(crate) fn size_of<S: ReadStore>(store: &S, absent: Absent, tag: u32) -> usiz
     ensures small { result ≤ 260 }
 {
     let mut room = [0u8; 260];
-    shown_bytes(store, absent, tag, &mut room)
+    shown_bytes(store, absent, tag, &mut room).len()
 }
 
 // Writes bytes at a place of the buffer.
@@ -78,16 +86,15 @@ fn put_shown<S: ReadStore>(store: &S, absent: Absent, tag: u32, out: &mut [u8], 
     ensures back { drop result out.new ≡ drop result out.old }
 {
     let mut room = [0u8; 260];
-    let n = shown_bytes(store, absent, tag, &mut room);
-    put_at(out, at, &room[0..n]);
-    at + n
+    let object = shown_bytes(store, absent, tag, &mut room);
+    put_at(out, at, object);
+    at + object.len()
 }
 
 // How many bytes the objects that are shown for tags have.
 fn sizes_of<S: ReadStore>(store: &S, absent: Absent, tags: &[u32]) -> usize
     requires { length tags.now ≤ 64 }
-    ensures value { result ≡ length (bytes_of (objects_at absent tags.now (S.held store.now))) }
-    ensures only { OnlyAt absent tags.now }
+    ensures { result ≡ sum (map (λ t. length (bytes_of (shown absent t (S.held store.now t)))) tags.now) }
 {
     tags.iter().map(|tag| size_of(store, absent, *tag)).sum()
 }

@@ -93,10 +93,9 @@ fn copy_numbers(tags: &[Tag], out: &mut [u32; 64])
 // The different tags of a list, in their order: their numbers go to the front of the array; how many there are.
 pub(crate) fn read_tags(
     text: &[u8],
-    memory: &mut [Tag],
+    memory: &mut [Tag; 64],
     out: &mut [u32; 64],
 ) -> Result<usize, TextFault>
-    requires { length memory.old ≡ 64 }
     ensures value { told_in result out.new ≡ wanted_tags text.now }
     ensures tags { IfOk result (λ n. AllTags (take n out.new)) }
     ensures few { IfOk result (λ n. n ≤ 64) }

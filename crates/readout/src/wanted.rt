@@ -15,26 +15,24 @@ use tlv::fault::TextFault;
 // The tags of the held list of wanted objects (DF8112), to the front of the array; none if it is not held.
 fn listed_tags<S: ReadStore>(
     store: &S,
-    list: &mut [Tag],
+    list: &mut [Tag; 64],
     tags: &mut [u32; 64],
 ) -> Result<usize, TextFault>
-    requires { length list.old ≡ 64 }
     ensures value { told_in result tags.new ≡ wanted_by (S.held store.now) }
     ensures tags { IfOk result (λ n. AllTags (take n tags.new)) }
     ensures few { IfOk result (λ n. n ≤ 64) }
 {
     let mut value = [0u8; 255];
-    let n = fetch(store, 0xDF_8112, &mut value).unwrap_or(0);
-    read_tags(&value[0..n], list, tags)
+    let text = fetch(store, 0xDF_8112, &mut value).unwrap_or(&[]);
+    read_tags(text, list, tags)
 }
 
 // Writes the wanted objects, with a work list of 64 tags.
 fn write_listed<S: ReadStore>(
     store: &S,
-    list: &mut [Tag],
+    list: &mut [Tag; 64],
     out: &mut [u8],
 ) -> Result<usize, ReadoutRefusal>
-    requires { length list.old ≡ 64 }
     ensures answer { result ≡ on_tags (wanted_by (S.held store.now)) (wanted_objects (S.held store.now)) (length out.old) }
     ensures after { out.new ≡ write_after result (bytes_of (wanted_objects (S.held store.now))) out.old }
     ensures reads { ReadsAs result out.new (wanted_objects (S.held store.now)) }
@@ -59,8 +57,6 @@ pub fn write_wanted<S: ReadStore>(
     ensures only { OnOk result (OnlyWanted (S.held store.now)) }
     ensures once { OnOk result (EachOnce (value_of (S.held store.now 0xDF_8112))) }
 {
-    if list.len() < 64 {
-        return Err(ReadoutRefusal::Short);
-    }
-    write_listed(store, &mut list[0..64], out)
+    let list = list.first_chunk_mut().ok_or(ReadoutRefusal::Short)?;
+    write_listed(store, list, out)
 }

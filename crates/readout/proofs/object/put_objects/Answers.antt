@@ -12,10 +12,3 @@ loop-tag-preserved g c =
     onward c.loop-tag.tag-index c.args.absent c.args.tags.now (g.S.ReadStore.held c.args.store.now) c.loop-tag-test.true
     c.loop-tag.at c.put_shown-at.result c.args.out.now c.loop-tag.out c.put_shown-at.new.out c.loop-tag.invariant
     (record { after = c.put_shown-at.ensures.after; front = c.put_shown-at.ensures.front; back = c.put_shown-at.ensures.back })
-
-pub loop-tag-init : goal.loop-tag-init
-loop-tag-init g c = record { whole = refl; sizes = omega arith; back = refl }
-
-pub returns : goal.returns
-returns g c =
-    done c.loop-tag.at c.loop-tag.tag-index c.args.absent c.args.tags.now (g.S.ReadStore.held c.args.store.now) c.args.out.now c.loop-tag.out c.loop-tag-test.false c.loop-tag.invariant
