@@ -50,7 +50,7 @@ fn push_object_fault(
 ) -> Result<(), AllocError>
     ensures { OnOk result (out.new.items ≡ out.old.items ++ object_fault kind at tag) }
 {
-    let words = format!(in *out.allocator(); "object fault {} place {at} tag ", kind.number())?;
+    let words = format!(in *out.allocator(); "object fault {} place {at} tag ", u8::from(kind))?;
     out.extend_from_slice(words.as_bytes())?;
     push_tag(out, tag)
 }

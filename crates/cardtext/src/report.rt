@@ -78,7 +78,7 @@ fn push_objects(out: &mut Vec<u8>, text: &[u8], places: &[Place]) -> Result<(), 
 fn push_fault(out: &mut Vec<u8>, fault: TextFault) -> Result<(), AllocError>
     ensures { OnOk result (out.new.items ≡ out.old.items ++ fault_line fault.kind fault.at) }
 {
-    let line = format!(in *out.allocator(); "fault {} place {}\n", fault.kind.number(), fault.at)?;
+    let line = format!(in *out.allocator(); "fault {} place {}\n", u8::from(fault.kind), fault.at)?;
     out.extend_from_slice(line.as_bytes())
 }
 

@@ -16,7 +16,7 @@ fn clear_entry<S: WriteStore>(store: &mut S, entry: &Entry)
     ensures after { S.ReadStore.held store.new ≡ cleared_one (S.ReadStore.held store.old) entry.now }
     ensures limits { (S.ReadStore.objects store.new ≡ S.ReadStore.objects store.old) × (S.ReadStore.bytes store.new ≡ S.ReadStore.bytes store.old) }
 {
-    if let Writer::Configuration = entry.writer {
+    if entry.writer == Writer::Configuration {
         return;
     }
     if let Some(tag) = Tag::new(entry.tag) {

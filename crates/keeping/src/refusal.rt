@@ -5,7 +5,7 @@ ghost use Rattle.keeping.specs.Refusals.{refused_as};
 use judge::fault::{JudgeRefusal, ObjectFault};
 
 // Why a text is not taken.
-#[derive(Clone, Copy)]
+#[derive(Clone, Copy, PartialEq, Eq, Debug)]
 pub enum TakeRefusal {
     // The work list has fewer than 64 places.
     ListShort,
@@ -27,7 +27,7 @@ impl From<JudgeRefusal> for TakeRefusal {
 }
 
 // Why a store does not serve at opening.
-#[derive(Clone, Copy)]
+#[derive(Clone, Copy, PartialEq, Eq, Debug)]
 pub enum StoreRefusal {
     // It holds objects.
     HoldsObjects,

@@ -18,13 +18,9 @@ use tlv::place::Place;
 fn length_held<S: ReadStore>(store: &S, tag: u32) -> usize
     ensures { result ≡ size (S.ReadStore.held store.now tag) }
 {
-    let Some(tag) = Tag::new(tag) else {
-        return 0;
-    };
-    match store.length_of(tag) {
-        Some(n) => n,
-        None => 0,
-    }
+    Tag::new(tag)
+        .and_then(|tag| store.length_of(tag))
+        .unwrap_or(0)
 }
 
 // The length at the tag after those objects of the text, `held` before.

@@ -215,11 +215,11 @@ fn carried_words(heap: Global, carried: Option<ObjectFault>) -> Result<String, A
     match carried {
         None => Ok(String::new(heap)),
         Some(ObjectFault::Text(fault)) => {
-            format!(in heap; " text {} place {}", fault.kind.number(), fault.at)
+            format!(in heap; " text {} place {}", u8::from(fault.kind), fault.at)
         }
         Some(ObjectFault::Object { kind, at, tag }) => {
             let tag = tag_word(heap, tag)?;
-            format!(in heap; " object {} place {at} tag {tag}", kind.number())
+            format!(in heap; " object {} place {at} tag {tag}", u8::from(kind))
         }
     }
 }
@@ -234,7 +234,7 @@ fn mark_words(heap: Global, fault: RunFault, marks: Marks) -> Result<String, All
         " l1 {} l2 {} phase {} record {} {} missing {missing}",
         marks.l1,
         marks.l2,
-        fault.phase.number(),
+        u8::from(fault.phase),
         record.sfi,
         record.number
     )

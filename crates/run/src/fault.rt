@@ -11,7 +11,7 @@ use judge::fault::ObjectFault;
 use keyed::record::Record;
 
 // The causes of an end with result 4.
-#[derive(Clone, Copy)]
+#[derive(Clone, Copy, PartialEq, Eq, Debug)]
 pub enum Cause {
     // The link to the card failed, with a code 1 to 3.
     Link(u8),
@@ -40,7 +40,7 @@ pub enum Cause {
 }
 
 // What a cause sets: L1, L2, the two bytes of the status that the Error Indication shows, and the tag that was missing.
-#[derive(Clone, Copy)]
+#[derive(Clone, Copy, PartialEq, Eq, Debug)]
 pub struct Marks {
     pub l1: u8,
     pub l2: u8,
@@ -151,7 +151,7 @@ impl From<CommandFault> for Cause {
 
 // The fault of a run: its cause, and the phase and the record that were awaited. The record is zeros in other phases
 // than that of a record.
-#[derive(Clone, Copy)]
+#[derive(Clone, Copy, PartialEq, Eq, Debug)]
 pub struct RunFault {
     pub phase: PhaseKind,
     pub awaited: Record,

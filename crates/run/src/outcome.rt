@@ -5,7 +5,7 @@ ghost use Rattle.run.specs.Numbers.{result_number, outcome_fault, outcome_of};
 use crate::fault::RunFault;
 use decision::cryptogram::Cryptogram;
 
-#[derive(Clone, Copy)]
+#[derive(Clone, Copy, PartialEq, Eq, Debug)]
 pub enum Outcome {
     // The card gave a TC.
     Approved,
@@ -53,7 +53,7 @@ impl Outcome {
 }
 
 // What is told of an ended run: its outcome, and how many commands were handed out.
-#[derive(Clone, Copy)]
+#[derive(Clone, Copy, PartialEq, Eq, Debug)]
 pub struct OutcomeReport {
     pub outcome: Outcome,
     pub commands: u8,

@@ -3,7 +3,7 @@ ghost use Rattle.std.specs.Prelude.{◌≡◌};
 ghost use Rattle.run.specs.Numbers.{phase_number};
 
 // Which answer a run awaits.
-#[derive(Clone, Copy)]
+#[derive(Clone, Copy, PartialEq, Eq, Debug)]
 pub enum PhaseKind {
     Ready = 0,
     // The answer to GET PROCESSING OPTIONS.
@@ -15,11 +15,11 @@ pub enum PhaseKind {
     Ended = 40,
 }
 
-impl PhaseKind {
-    // The number by which the phase is known.
-    pub fn number(self) -> u8
-        ensures { result ≡ phase_number self }
-    {
-        self as u8
+// The number by which the phase is known.
+impl From<PhaseKind> for u8 {
+    ghost from_gives = { λ kind n. n ≡ phase_number kind };
+
+    fn from(kind: PhaseKind) -> u8 {
+        kind as u8
     }
 }

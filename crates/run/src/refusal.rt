@@ -6,7 +6,7 @@ ghost use Rattle.run.specs.Numbers.{refusal_told, take_refused, store_refused};
 use judge::fault::ObjectFault;
 use keeping::refusal::{StoreRefusal, TakeRefusal};
 
-#[derive(Clone, Copy)]
+#[derive(Clone, Copy, PartialEq, Eq, Debug)]
 pub enum Refusal {
     // The reader is not open.
     NotOpen,
@@ -39,7 +39,7 @@ pub enum Refusal {
 }
 
 // A refusal by its number, and the kind, the place and the tag that some carry, zeros in others.
-#[derive(Clone, Copy)]
+#[derive(Clone, Copy, PartialEq, Eq, Debug)]
 pub struct Told {
     pub number: u8,
     pub kind: u8,
@@ -71,13 +71,13 @@ impl Refusal {
             Refusal::StoreSmall => numbered(4),
             Refusal::BadText(ObjectFault::Text(fault)) => Told {
                 number: 5,
-                kind: fault.kind.number(),
+                kind: u8::from(fault.kind),
                 place: fault.at,
                 tag: 0,
             },
             Refusal::BadText(ObjectFault::Object { kind, at, tag }) => Told {
                 number: 6,
-                kind: kind.number(),
+                kind: u8::from(kind),
                 place: at,
                 tag,
             },

@@ -75,7 +75,7 @@ fn print_fault(rt: &HostRuntime, fault: RunFault) -> io::Result<()> {
     if let Some(ObjectFault::Object { kind, at, .. }) = fault.cause.carried_fault() {
         println!(rt;
             "  object fault {} at place {at} of the record",
-            kind.number()
+            u8::from(kind)
         )?;
     }
     Ok(())

@@ -73,7 +73,7 @@ impl<S: WriteStore> Reader<S> {
     pub fn phase(&self) -> u8
         ensures { result ≡ phase_read (meaning S.ReadStore self.now) }
     {
-        self.phase_kind().number()
+        u8::from(self.phase_kind())
     }
 
     // Whether a command waits for its answer.
