@@ -1,5 +1,5 @@
 -- What storing a text, or a change at one tag, does to the objects of others. Assumes nothing.
-use Rattle.std.proofs.Common.{◌≡◌, ℕ, suc, ◌+◌, ◌<◌, Bool, true, false, cond, ◌&&◌, eqb, List, [], ◌∷◌, ◌++◌, length, get_or, Some, None, Ok, Option, sym, refl, ap, ◌∙◌, ap₂, ⊎_elim, arith}
+use Rattle.std.proofs.Common.{◌≡◌, ℕ, suc, ◌+◌, ◌<◌, Bool, true, false, cond, not, ◌&&◌, eqb, List, [], ◌∷◌, ◌++◌, length, get_or, Some, None, Ok, Option, sym, refl, ap, ◌∙◌, ap₂, ⊎_elim, arith}
 use Rattle.std.specs.List.{AllByRecursion}
 use Rattle.std.proofs.lemmas.Bool.{cases_eq, ne_eqb, cond-false, both_ways}
 use Rattle.std.proofs.lemmas.Bool.Decides.{nat_tests}
@@ -145,4 +145,4 @@ missing_agree [] m m' own same = refl
 missing_agree (t ∷ ts) m m' own same =
     let here : own_tag t ≡ true = grind (arith, nat_tests, own) in
     let rest : all_own ts ≡ true = grind (arith, nat_tests, own) in
-    ap₂ (λ o r. cond (has_value o) r (Some t)) (same t here) (missing_agree ts m m' rest same)
+    ap₂ (λ o r. cond (not (has_value o)) (Some t) r) (same t here) (missing_agree ts m m' rest same)

@@ -1,5 +1,6 @@
 -- The run: what the card's bytes lead to, step by step.
 use Rattle.std.specs.Prelude.{ℕ, ◌-◌, Bool, true, false, cond, not, ◌&&◌, ◌||◌, List, [], ◌∷◌, length, take, drop, Some, None, Ok, Err, Option, Result, ◌==◌, nat_lt, slice_index}
+use Rattle.std.specs.List.{find}
 use Rattle.keyed.specs.declared.record.Record.{Record}
 use Rattle.tlv.specs.Objects.{end, primitive, constructed, Next, fault, seen, next_at}
 use Rattle.tlv.specs.Series.{Reading, wrong, found, meaning}
@@ -43,8 +44,7 @@ cause_if b c = cond b (Some c) None
 
 -- the first of these tags that has no value
 abbrev pub first_missing : List ℕ → Map → Option ℕ
-first_missing [] m = None
-first_missing (t ∷ ts) m = cond (has_value (m t)) (first_missing ts m) (Some t)
+first_missing ts m = find (λ t. not (has_value (m t))) ts
 
 -- a tag without a value is a cause
 abbrev pub missing : Option ℕ → Option Cause

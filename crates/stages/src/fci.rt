@@ -1,5 +1,6 @@
 // After the FCI.
 ghost use Rattle.std.specs.Prelude.{◌≡◌, ℕ, ◌≤◌, [], length, drop, IfOk, nat_lt};
+ghost use Rattle.std.specs.Result.{result_err};
 ghost use Rattle.store.specs.Map.{Map};
 ghost use Rattle.run.specs.declared.fault.Cause.TheVariants.{WrongSize};
 ghost use Rattle.run.specs.Run.{unless, cause_if, card_text, longest_fci, begins, after_fci};
@@ -11,20 +12,20 @@ use run::fault::Cause;
 use store::reading::ReadStore;
 
 // An FCI has at most 256 bytes.
-fn size_cause(fci: &[u8]) -> Option<Cause>
-    ensures { result ≡ cause_if (nat_lt longest_fci (length fci.now)) WrongSize }
+fn check_size(fci: &[u8]) -> Result<(), Cause>
+    ensures { result_err result ≡ cause_if (nat_lt longest_fci (length fci.now)) WrongSize }
 {
     if fci.len() > 256 {
-        return Some(Cause::WrongSize);
+        return Err(Cause::WrongSize);
     }
-    None
+    Ok(())
 }
 
 // What is wrong with an FCI before it is taken as a text of the card's.
-pub fn fci_cause(fci: &[u8]) -> Option<Cause>
-    ensures { (share : ℕ) (held : Map) → unless result held (card_text 0x6F share held fci.now after_fci) ≡ begins share held fci.now }
+pub fn check_fci(fci: &[u8]) -> Result<(), Cause>
+    ensures { (share : ℕ) (held : Map) → unless (result_err result) held (card_text 0x6F share held fci.now after_fci) ≡ begins share held fci.now }
 {
-    size_cause(fci)
+    check_size(fci)
 }
 
 // GET PROCESSING OPTIONS. The command buffer has at least 261 bytes.

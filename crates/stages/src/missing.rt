@@ -1,5 +1,6 @@
 // Values that must be there.
 ghost use Rattle.std.specs.Prelude.{◌≡◌};
+ghost use Rattle.std.specs.Result.{result_err};
 ghost use Rattle.store.specs.Map.{empty};
 ghost use Rattle.judge.specs.Rules.{has_value};
 ghost use Rattle.keeping.specs.Keeping.{stored};
@@ -16,56 +17,38 @@ use tlv::place::Place;
 fn is_brought(text: &[u8], places: &[Place], tag: u32) -> bool
     ensures { result ≡ has_value (stored text.now places.now empty tag) }
 {
-    brought(text, places, tag).len() > 0
+    !brought(text, places, tag).is_empty()
 }
 
 // Whether the store holds a value of the tag.
 fn is_held<S: ReadStore>(store: &S, tag: u32) -> bool
     ensures { result ≡ has_value (S.ReadStore.held store.now tag) }
 {
-    let Some(tag) = Tag::new(tag) else {
-        return false;
-    };
-    has_value(store, tag)
+    Tag::new(tag).is_some_and(|tag| has_value(store, tag))
 }
 
 // The first of these tags of which the text brings no value.
 pub(crate) fn first_not_brought(text: &[u8], places: &[Place], tags: &[u32]) -> Option<u32>
     ensures { result ≡ first_missing tags.now (stored text.now places.now empty) }
 {
-    for t in tags {
-        if !is_brought(text, places, *t) {
-            return Some(*t);
-        }
-    }
-    None
-}
-
-// The first of these tags of which the store holds no value.
-fn first_not_held<S: ReadStore>(store: &S, tags: &[u32]) -> Option<u32>
-    ensures { result ≡ first_missing tags.now (S.ReadStore.held store.now) }
-{
-    for t in tags {
-        if !is_held(store, *t) {
-            return Some(*t);
-        }
-    }
-    None
+    tags.iter()
+        .copied()
+        .find(|tag| !is_brought(text, places, *tag))
 }
 
 // The first of these tags that has no value in the store; none where each has one.
 pub fn first_missing<S: ReadStore>(store: &S, tags: &[u32]) -> Option<u32>
     ensures { result ≡ first_missing tags.now (S.ReadStore.held store.now) }
 {
-    first_not_held(store, tags)
+    tags.iter().copied().find(|tag| !is_held(store, *tag))
 }
 
-// The cause of a tag that has no value.
-pub(crate) fn missing_cause(tag: Option<u32>) -> Option<Cause>
-    ensures { result ≡ missing tag }
+// A tag that has no value is a cause.
+pub(crate) fn none_missing(tag: Option<u32>) -> Result<(), Cause>
+    ensures { result_err result ≡ missing tag }
 {
     match tag {
-        Some(tag) => Some(Cause::Missing(tag)),
-        None => None,
+        Some(tag) => Err(Cause::Missing(tag)),
+        None => Ok(()),
     }
 }

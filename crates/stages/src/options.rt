@@ -1,5 +1,6 @@
 // After the answer to GET PROCESSING OPTIONS.
 ghost use Rattle.std.specs.Prelude.{◌≡◌, ◌≤◌, length, drop, IfOk};
+ghost use Rattle.std.specs.Result.{result_err};
 ghost use Rattle.store.specs.Map.{Map, empty};
 ghost use Rattle.keeping.specs.Keeping.{stored};
 ghost use Rattle.commands.specs.Commands.{bytes};
@@ -9,7 +10,7 @@ ghost use Rattle.stages.specs.Nexts.{course_of, command_length, IsFirst};
 
 use crate::ask::ask_first;
 use crate::brought::brought;
-use crate::missing::{first_not_brought, missing_cause};
+use crate::missing::{first_not_brought, none_missing};
 use crate::next::Next;
 use afl::locator::read_afl;
 use keyed::record::Record;
@@ -17,10 +18,10 @@ use run::fault::Cause;
 use tlv::place::Place;
 
 // The answer must itself bring values of 82 and 94.
-fn options_missing(text: &[u8], places: &[Place]) -> Option<Cause>
-    ensures { (held : Map) → unless result held (first_record held (records_of (bytes (stored text.now places.now empty 0x94)))) ≡ after_options held (stored text.now places.now empty) }
+fn check_brought(text: &[u8], places: &[Place]) -> Result<(), Cause>
+    ensures { (held : Map) → unless (result_err result) held (first_record held (records_of (bytes (stored text.now places.now empty 0x94)))) ≡ after_options held (stored text.now places.now empty) }
 {
-    missing_cause(first_not_brought(text, places, &[0x82, 0x94]))
+    none_missing(first_not_brought(text, places, &[0x82, 0x94]))
 }
 
 // READ RECORD for the first record that an AFL names.
@@ -28,7 +29,7 @@ fn ask_located(afl: &[u8], records: &mut [Record; 64], buffer: &mut [u8]) -> Res
     ensures course { 261 ≤ length buffer.old → (held : Map) → course_of result buffer.new records.new held ≡ first_record held (records_of afl.now) }
     ensures rest { drop (command_length result) buffer.new ≡ drop (command_length result) buffer.old }
     ensures fits { command_length result ≤ length buffer.old }
-    ensures shape { IfOk result (IsFirst) }
+    ensures shape { IfOk result IsFirst }
 {
     let count = read_afl(afl, records)?;
     if count == 0 {
@@ -48,10 +49,8 @@ pub fn after_options(
     ensures course { 261 ≤ length buffer.old → (held : Map) → course_of result buffer.new records.new held ≡ after_options held (stored text.now places.now empty) }
     ensures rest { drop (command_length result) buffer.new ≡ drop (command_length result) buffer.old }
     ensures fits { command_length result ≤ length buffer.old }
-    ensures shape { IfOk result (IsFirst) }
+    ensures shape { IfOk result IsFirst }
 {
-    if let Some(cause) = options_missing(text, places) {
-        return Err(cause);
-    }
+    check_brought(text, places)?;
     ask_located(brought(text, places, 0x94), records, buffer)
 }

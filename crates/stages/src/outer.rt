@@ -9,24 +9,15 @@ use tlv::token::{Token, next_token};
 fn only_filler(text: &[u8]) -> bool
     ensures { result ≡ ends (next_at (length text.now) text.now) }
 {
-    match next_token(text, text.len()) {
-        Ok((Token::End, _)) => true,
-        Ok((Token::Primitive { .. }, _)) => false,
-        Ok((Token::Constructed { .. }, _)) => false,
-        Err(_) => false,
-    }
+    matches!(next_token(text, text.len()), Ok((Token::End, _)))
 }
 
 // Whether a text is one object of the tag, with nothing else but filler.
 pub fn is_one_object(text: &[u8], outer: u32) -> bool
     ensures { result ≡ is_outer outer (next_at (length text.now) text.now) }
 {
-    let Ok((token, rest)) = next_token(text, text.len()) else {
-        return false;
-    };
-    match token {
-        Token::Constructed { tag, .. } => tag == outer && only_filler(rest),
-        Token::Primitive { .. } => false,
-        Token::End => false,
+    match next_token(text, text.len()) {
+        Ok((Token::Constructed { tag, .. }, rest)) => tag == outer && only_filler(rest),
+        _ => false,
     }
 }

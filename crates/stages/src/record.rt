@@ -1,5 +1,6 @@
 // After the answer to READ RECORD.
 ghost use Rattle.std.specs.Prelude.{◌≡◌, ◌<◌, ◌≤◌, List, length, drop, IfOk, ◌≢◌};
+ghost use Rattle.std.specs.Result.{result_err};
 ghost use Rattle.store.specs.Map.{Map};
 ghost use Rattle.keeping.specs.Room.{Roomy};
 ghost use Rattle.commands.specs.Commands.{bytes};
@@ -9,7 +10,7 @@ ghost use Rattle.stages.specs.Nexts.{course_of, command_length, IsOnward};
 
 use crate::ask::{ask_cryptogram, ask_first};
 use crate::cryptogram::first_byte;
-use crate::missing::{first_missing, missing_cause};
+use crate::missing::{first_missing, none_missing};
 use crate::next::Next;
 use decision::choice::decide;
 use decision::cryptogram::Cryptogram;
@@ -74,10 +75,10 @@ fn ask_decided<S: ReadStore>(store: &S, buffer: &mut [u8]) -> Result<Next, Cause
 }
 
 // After the last record 5A and 5F24 must have values.
-fn records_missing<S: ReadStore>(store: &S) -> Option<Cause>
-    ensures { (left : List Record) → length left ≡ 0 → (brought : Map) → unless result (S.ReadStore.held store.now) (decides (verified (S.ReadStore.held store.now))) ≡ after_record left (S.ReadStore.held store.now) brought }
+fn check_held<S: ReadStore>(store: &S) -> Result<(), Cause>
+    ensures { (left : List Record) → length left ≡ 0 → (brought : Map) → unless (result_err result) (S.ReadStore.held store.now) (decides (verified (S.ReadStore.held store.now))) ≡ after_record left (S.ReadStore.held store.now) brought }
 {
-    missing_cause(first_missing(store, &[0x5A, 0x5F24]))
+    none_missing(first_missing(store, &[0x5A, 0x5F24]))
 }
 
 // The Terminal Verification Results are put, and GENERATE AC asks for what is decided by them.
@@ -102,9 +103,7 @@ fn after_last<S: WriteStore>(store: &mut S, buffer: &mut [u8]) -> Result<Next, C
     ensures roomy { (s : Shares) → Roomy s (S.ReadStore.objects store.old) (S.ReadStore.bytes store.old) (S.ReadStore.held store.old) → Roomy s (S.ReadStore.objects store.new) (S.ReadStore.bytes store.new) (S.ReadStore.held store.new) }
     ensures limits { (S.ReadStore.objects store.new ≡ S.ReadStore.objects store.old) × (S.ReadStore.bytes store.new ≡ S.ReadStore.bytes store.old) }
 {
-    if let Some(cause) = records_missing(store) {
-        return Err(cause);
-    }
+    check_held(store)?;
     put_and_ask(store, buffer)
 }
 

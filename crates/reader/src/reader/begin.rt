@@ -13,7 +13,7 @@ use keeping::shares::Shares;
 use run::fault::Cause;
 use run::refusal::Refusal;
 use stages::card::card_text;
-use stages::fci::{after_fci, fci_cause};
+use stages::fci::{after_fci, check_fci};
 use stages::missing::first_missing;
 use stages::next::Next;
 use store::writing::WriteStore;
@@ -39,9 +39,7 @@ fn fci_course<S: WriteStore>(
     ensures roomy { RoomyStore shares.now (S.ReadStore.objects store.old) (S.ReadStore.bytes store.old) (S.ReadStore.held store.old) → RoomyStore shares.now (S.ReadStore.objects store.new) (S.ReadStore.bytes store.new) (S.ReadStore.held store.new) }
     ensures limits { (S.ReadStore.objects store.new ≡ S.ReadStore.objects store.old) × (S.ReadStore.bytes store.new ≡ S.ReadStore.bytes store.old) }
 {
-    if let Some(cause) = fci_cause(fci) {
-        return Err(cause);
-    }
+    check_fci(fci)?;
     match card_text(store, shares, 0x6F, fci, list) {
         Ok(_) => after_fci(store, buffer),
         Err(cause) => Err(cause),

@@ -5,7 +5,7 @@ pub returns : goal.returns
 returns g c =
     let e = c.put_and_ask.ensures in
     record {
-      course = λ wide s roomy left none brought. e.course wide s roomy left ∙ c.in_default.ensures left none brought;
+      course = λ wide s roomy left none brought. e.course wide s roomy left ∙ c.in_ok-check_held.ensures left none brought;
       rest = e.rest;
       fits = e.fits;
       shape = e.shape;
