@@ -74,11 +74,9 @@ pub fn read_record<S: WriteStore>(reader: &Reader<S>, out: &mut [u8]) -> Result<
     ensures own { OwnRecord (meaning S.ReadStore reader.now) result out.new }
 {
     law_of_record();
-    match reader.outcome() {
-        Err(refusal) => Err(refusal),
-        Ok(report) => match report.outcome {
-            Outcome::EndApplication(_) => Err(Refusal::NoDataRecord),
-            _ => hand_on(write_record(reader.store(), out)),
-        },
+    let report = reader.outcome()?;
+    match report.outcome {
+        Outcome::EndApplication(_) => Err(Refusal::NoDataRecord),
+        _ => hand_on(write_record(reader.store(), out)),
     }
 }

@@ -21,8 +21,5 @@ fn of_reader(refusal: ReadoutRefusal) -> Refusal
 pub(crate) fn hand_on(answer: Result<usize, ReadoutRefusal>) -> Result<usize, Refusal>
     ensures { result ≡ handed answer }
 {
-    match answer {
-        Ok(n) => Ok(n),
-        Err(refusal) => Err(of_reader(refusal)),
-    }
+    answer.map_err(of_reader)
 }

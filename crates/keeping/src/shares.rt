@@ -5,7 +5,7 @@ ghost use Rattle.keeping.specs.Shares.{share_of};
 use judge::kind::TextKind;
 
 // How many value bytes each writer may have.
-#[derive(Clone, Copy, PartialEq, Eq, Debug)]
+#[derive(Clone, Copy, PartialEq, Eq, Debug, Default)]
 pub struct Shares {
     pub configuration: usize,
     pub terminal: usize,

@@ -17,7 +17,7 @@ mod own;
 mod reads;
 
 // Which answer is awaited.
-#[derive(Clone, Copy)]
+#[derive(Clone, Copy, PartialEq, Eq, Debug)]
 pub enum Phase {
     Ready,
     AwaitsOptions,
@@ -44,7 +44,7 @@ pub struct Reader<S> {
 }
 
 // What a call that was taken did.
-#[derive(Clone, Copy)]
+#[derive(Clone, Copy, PartialEq, Eq, Debug)]
 pub enum Step {
     // It was taken.
     Taken,

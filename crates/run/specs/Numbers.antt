@@ -127,6 +127,12 @@ list_cause ShortBuffer = BadList
 list_cause FaultyList = BadList
 list_cause DefaultList = BadDefaultList
 
+-- the cause that a text of the card's which is not taken gives: a work list of fewer than 64 places stops the run
+abbrev pub take_cause : TakeRefusal → Cause
+take_cause ListShort = Stopped
+take_cause (Fault f) = Faulty f
+take_cause Share = OverCardShare
+
 -- the outcome of a cryptogram that stands
 abbrev pub outcome_of : Cryptogram → Outcome
 outcome_of Aac = Declined

@@ -1,13 +1,14 @@
 // Why a run ends without a cryptogram that stands.
 ghost use Rattle.std.specs.Prelude.{◌≡◌};
 ghost use Rattle.run.specs.declared.fault.Cause.TheVariants.{Faulty, BadFileLocator, BadCryptogram};
-ghost use Rattle.run.specs.Numbers.{cause_marks, indication_of, carried_fault, list_cause};
+ghost use Rattle.run.specs.Numbers.{cause_marks, indication_of, carried_fault, list_cause, take_cause};
 
 use crate::phase::PhaseKind;
 use afl::locator::AflFault;
 use commands::instruction::CommandFault;
 use decision::cryptogram::WrongCryptogram;
 use judge::fault::ObjectFault;
+use keeping::refusal::TakeRefusal;
 use keyed::record::Record;
 
 // The causes of an end with result 4.
@@ -145,6 +146,19 @@ impl From<CommandFault> for Cause {
         match e {
             CommandFault::DefaultList => Cause::BadDefaultList,
             CommandFault::List | CommandFault::ShortBuffer => Cause::BadList,
+        }
+    }
+}
+
+// A text of the card's is not taken. The work list of a run has at least 64 places; a shorter one stops it.
+impl From<TakeRefusal> for Cause {
+    ghost from_gives = { λ e r. r ≡ take_cause e };
+
+    fn from(e: TakeRefusal) -> Cause {
+        match e {
+            TakeRefusal::Fault(fault) => Cause::Faulty(fault),
+            TakeRefusal::Share => Cause::OverCardShare,
+            TakeRefusal::ListShort => Cause::Stopped,
         }
     }
 }

@@ -21,7 +21,8 @@ use Rattle.keeping.specs.Shares.{writer_total}
 use Rattle.keeping.specs.Taking.{on_judged, share_answer, take_answer, take_after}
 use Rattle.run.specs.declared.fault.Cause.TheVariants.{OverCardShare}
 use Rattle.run.specs.Run.{Course, fails, is_outer, one_object, outer_cause, judged_text, card_text}
-use Rattle.stages.specs.Courses.{read_cause, take_cause}
+use Rattle.run.specs.Numbers.{take_cause}
+use Rattle.stages.specs.Courses.{read_cause}
 
 -- a text that is not one object
 is_short : Answer → Bool

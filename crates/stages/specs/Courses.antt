@@ -5,10 +5,8 @@ use Rattle.store.specs.Map.{Map}
 use Rattle.tlv.specs.declared.text.ReadRefusal.{ReadRefusal}
 use Rattle.tlv.specs.declared.text.ReadRefusal.TheVariants as read
 use Rattle.judge.specs.declared.fault.ObjectFault.TheVariants.{Text}
-use Rattle.keeping.specs.declared.refusal.TakeRefusal.{TakeRefusal}
-use Rattle.keeping.specs.declared.refusal.TakeRefusal.TheVariants.{ListShort, Fault, Share}
 use Rattle.run.specs.declared.fault.Cause.{Cause}
-use Rattle.run.specs.declared.fault.Cause.TheVariants.{Stopped, Faulty, WrongOuter, OverCardShare}
+use Rattle.run.specs.declared.fault.Cause.TheVariants.{Stopped, Faulty, WrongOuter}
 use Rattle.run.specs.State.{Phase}
 use Rattle.run.specs.Run.{Course, fails, answer_text}
 
@@ -16,12 +14,6 @@ use Rattle.run.specs.Run.{Course, fails, answer_text}
 abbrev pub text_course : Result ℕ Cause → Map → Map → (Map → Map → Course) → Course
 text_course (Err c) held brought next = fails c held
 text_course (Ok n) held brought next = next held brought
-
--- the cause that a text which is not taken gives: a work list of fewer than 64 places stops the run
-abbrev pub take_cause : TakeRefusal → Cause
-take_cause ListShort = Stopped
-take_cause (Fault f) = Faulty f
-take_cause Share = OverCardShare
 
 -- the cause that a text which is not one object of the tag gives, by what reading it answers
 abbrev pub read_cause : Result ℕ ReadRefusal → Cause

@@ -6,12 +6,11 @@ ghost use Rattle.store.specs.Map.{Map, empty};
 ghost use Rattle.keeping.specs.Keeping.{places_read, stored_text};
 ghost use Rattle.keeping.specs.Room.{Roomy};
 ghost use Rattle.run.specs.Run.{Course, fails, is_outer, card_text};
-ghost use Rattle.stages.specs.Courses.{read_cause, take_cause, text_course};
+ghost use Rattle.stages.specs.Courses.{read_cause, text_course};
 
 use crate::outer::is_one_object;
 use judge::fault::ObjectFault;
 use judge::kind::TextKind;
-use keeping::refusal::TakeRefusal;
 use keeping::shares::Shares;
 use keeping::take::take_text;
 use run::fault::Cause;
@@ -37,17 +36,6 @@ fn outer_cause(outer: u32, text: &[u8], list: &mut [Place]) -> Cause
     cause_of_reading(read_text(text, list))
 }
 
-// The cause that a text which is not taken gives.
-fn cause_of(refusal: TakeRefusal) -> Cause
-    ensures { result ≡ take_cause refusal }
-{
-    match refusal {
-        TakeRefusal::Fault(fault) => Cause::Faulty(fault),
-        TakeRefusal::Share => Cause::OverCardShare,
-        TakeRefusal::ListShort => Cause::Stopped,
-    }
-}
-
 // Takes a text that is one object of the tag.
 fn take_object<S: WriteStore>(
     store: &mut S,
@@ -62,10 +50,7 @@ fn take_object<S: WriteStore>(
     ensures roomy { Roomy shares.now (S.ReadStore.objects store.old) (S.ReadStore.bytes store.old) (S.ReadStore.held store.old) → Roomy shares.now (S.ReadStore.objects store.new) (S.ReadStore.bytes store.new) (S.ReadStore.held store.new) }
     ensures limits { (S.ReadStore.objects store.new ≡ S.ReadStore.objects store.old) × (S.ReadStore.bytes store.new ≡ S.ReadStore.bytes store.old) }
 {
-    match take_text(store, shares, TextKind::CardAnswer, text, list) {
-        Ok(n) => Ok(n),
-        Err(refusal) => Err(cause_of(refusal)),
-    }
+    Ok(take_text(store, shares, TextKind::CardAnswer, text, list)?)
 }
 
 // Takes a text of the card's, which must be one object of the tag: how many places it has in the work list. A text

@@ -4,7 +4,7 @@ use run::outcome::Outcome;
 
 // A command whose answer is awaited, or an outcome. `command` is how many bytes the command has, which stand at the
 // front of the command buffer.
-#[derive(Clone, Copy)]
+#[derive(Clone, Copy, PartialEq, Eq, Debug)]
 pub enum Next {
     // GET PROCESSING OPTIONS.
     Options {

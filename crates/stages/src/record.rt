@@ -132,7 +132,7 @@ pub fn after_record<S: WriteStore>(
     ensures roomy { (s : Shares) → Roomy s (S.ReadStore.objects store.old) (S.ReadStore.bytes store.old) (S.ReadStore.held store.old) → Roomy s (S.ReadStore.objects store.new) (S.ReadStore.bytes store.new) (S.ReadStore.held store.new) }
     ensures limits { (S.ReadStore.objects store.new ≡ S.ReadStore.objects store.old) × (S.ReadStore.bytes store.new ≡ S.ReadStore.bytes store.old) }
 {
-    if left.len() == 0 {
+    if left.is_empty() {
         return after_last(store, buffer);
     }
     ask_next(left, buffer)

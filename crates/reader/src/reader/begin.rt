@@ -40,10 +40,8 @@ fn fci_course<S: WriteStore>(
     ensures limits { (S.ReadStore.objects store.new ≡ S.ReadStore.objects store.old) × (S.ReadStore.bytes store.new ≡ S.ReadStore.bytes store.old) }
 {
     check_fci(fci)?;
-    match card_text(store, shares, 0x6F, fci, list) {
-        Ok(_) => after_fci(store, buffer),
-        Err(cause) => Err(cause),
-    }
+    card_text(store, shares, 0x6F, fci, list)?;
+    after_fci(store, buffer)
 }
 
 impl<S: WriteStore> Reader<S> {

@@ -10,7 +10,7 @@ use run::refusal::Refusal;
 use store::writing::{Refused, WriteStore};
 
 // Why an object is not put into the store of a reader.
-#[derive(Clone, Copy)]
+#[derive(Clone, Copy, PartialEq, Eq, Debug)]
 pub enum PutRefusal {
     // The reader is open.
     Open,
@@ -27,10 +27,7 @@ impl<S: WriteStore> Reader<S> {
         if self.opened {
             return Err(PutRefusal::Open);
         }
-        match self.store.put(tag, value) {
-            Ok(()) => Ok(()),
-            Err(refused) => Err(PutRefusal::Store(refused)),
-        }
+        self.store.put(tag, value).map_err(PutRefusal::Store)
     }
 
     // Drops an object from the store of a reader that is not open; whether it was held.

@@ -34,10 +34,8 @@ pub(crate) fn options_course<S: WriteStore>(
     ensures roomy { RoomyStore shares.now (S.ReadStore.objects store.old) (S.ReadStore.bytes store.old) (S.ReadStore.held store.old) → RoomyStore shares.now (S.ReadStore.objects store.new) (S.ReadStore.bytes store.new) (S.ReadStore.held store.new) }
     ensures limits { (S.ReadStore.objects store.new ≡ S.ReadStore.objects store.old) × (S.ReadStore.bytes store.new ≡ S.ReadStore.bytes store.old) }
 {
-    match card_text(store, shares, 0x77, text, list) {
-        Ok(n) => after_options(text, &list[..n], records, buffer),
-        Err(cause) => Err(cause),
-    }
+    let n = card_text(store, shares, 0x77, text, list)?;
+    after_options(text, &list[..n], records, buffer)
 }
 
 // Where the text of the answer to READ RECORD leads, with the records that are left to be read.
@@ -58,10 +56,8 @@ pub(crate) fn record_course<S: WriteStore>(
     ensures roomy { RoomyStore shares.now (S.ReadStore.objects store.old) (S.ReadStore.bytes store.old) (S.ReadStore.held store.old) → RoomyStore shares.now (S.ReadStore.objects store.new) (S.ReadStore.bytes store.new) (S.ReadStore.held store.new) }
     ensures limits { (S.ReadStore.objects store.new ≡ S.ReadStore.objects store.old) × (S.ReadStore.bytes store.new ≡ S.ReadStore.bytes store.old) }
 {
-    match card_text(store, shares, 0x70, text, list) {
-        Ok(_) => after_record(store, left, buffer),
-        Err(cause) => Err(cause),
-    }
+    card_text(store, shares, 0x70, text, list)?;
+    after_record(store, left, buffer)
 }
 
 // Where the text of the answer to GENERATE AC leads, where `requested` was.
@@ -78,8 +74,6 @@ pub(crate) fn cryptogram_course<S: WriteStore>(
     ensures roomy { RoomyStore shares.now (S.ReadStore.objects store.old) (S.ReadStore.bytes store.old) (S.ReadStore.held store.old) → RoomyStore shares.now (S.ReadStore.objects store.new) (S.ReadStore.bytes store.new) (S.ReadStore.held store.new) }
     ensures limits { (S.ReadStore.objects store.new ≡ S.ReadStore.objects store.old) × (S.ReadStore.bytes store.new ≡ S.ReadStore.bytes store.old) }
 {
-    match card_text(store, shares, 0x77, text, list) {
-        Ok(n) => after_cryptogram(requested, text, &list[..n]),
-        Err(cause) => Err(cause),
-    }
+    let n = card_text(store, shares, 0x77, text, list)?;
+    after_cryptogram(requested, text, &list[..n])
 }

@@ -50,23 +50,19 @@ impl<S: WriteStore> Reader<S> {
         requires roomy { Roomy shares (S.ReadStore.objects self.old.store) (S.ReadStore.bytes self.old.store) (S.ReadStore.held self.old.store) }
         ensures opens { done (told result []) (meaning S.ReadStore self.new) ≡ checked (own_refusal Configuration shares.configuration empty text.now) (meaning S.ReadStore self.old) (record { reply = taken; after = start (configured shares text.now) (limits_of S.ReadStore self.old.store) }) }
     {
-        match take_text(
+        take_text(
             &mut self.store,
             &shares,
             TextKind::Configuration,
             text,
             list,
-        ) {
-            Ok(_) => {
-                self.opened = true;
-                self.shares = shares;
-                self.begun = false;
-                self.phase = Phase::Ready;
-                self.count = 0;
-                Ok(Step::Taken)
-            }
-            Err(refusal) => Err(Refusal::from(refusal)),
-        }
+        )?;
+        self.opened = true;
+        self.shares = shares;
+        self.begun = false;
+        self.phase = Phase::Ready;
+        self.count = 0;
+        Ok(Step::Taken)
     }
 
     // Opens a closed reader, if its store serves.
@@ -80,10 +76,8 @@ impl<S: WriteStore> Reader<S> {
         requires long { 64 ≤ length list.old }
         ensures opens { done (told result []) (meaning S.ReadStore self.new) ≡ open_call (meaning S.ReadStore self.old) shares text.now (length list.old) }
     {
-        match admitted(&self.store, &shares) {
-            Ok(()) => self.configure(shares, text, list),
-            Err(refusal) => Err(Refusal::from(refusal)),
-        }
+        admitted(&self.store, &shares)?;
+        self.configure(shares, text, list)
     }
 
     // Opens a closed reader, which then stands.

@@ -42,10 +42,8 @@ impl<S: WriteStore> Reader<S> {
     {
         let kind = TextKind::TerminalWrite { begun: self.begun };
         let shares = self.shares;
-        match take_text(&mut self.store, &shares, kind, text, list) {
-            Ok(_) => Ok(Step::Taken),
-            Err(refusal) => Err(Refusal::from(refusal)),
-        }
+        take_text(&mut self.store, &shares, kind, text, list)?;
+        Ok(Step::Taken)
     }
 
     // The terminal writes objects of its own.

@@ -20,14 +20,10 @@ impl<S: WriteStore> Reader<S> {
         Reader {
             store,
             opened: false,
-            shares: Shares {
-                configuration: 0,
-                terminal: 0,
-                card: 0,
-            },
+            shares: Shares::default(),
             begun: false,
             phase: Phase::Ready,
-            records: [Record { sfi: 0, number: 0 }; 64],
+            records: [Record::default(); 64],
             at: 0,
             len: 0,
             count: 0,
@@ -80,10 +76,10 @@ impl<S: WriteStore> Reader<S> {
     pub(crate) fn waits(&self) -> bool
         ensures { result ≡ waits_at (meaning S.ReadStore self.now).phase }
     {
-        match self.phase {
-            Phase::Ready | Phase::Ended(_) => false,
-            Phase::AwaitsOptions | Phase::AwaitsRecord | Phase::AwaitsCryptogram(_) => true,
-        }
+        matches!(
+            self.phase,
+            Phase::AwaitsOptions | Phase::AwaitsRecord | Phase::AwaitsCryptogram(_)
+        )
     }
 
     // The record that is awaited, zeros where none is.
@@ -92,7 +88,7 @@ impl<S: WriteStore> Reader<S> {
     {
         match self.phase {
             Phase::AwaitsRecord => self.records[self.at],
-            _ => Record { sfi: 0, number: 0 },
+            _ => Record::default(),
         }
     }
 

@@ -1,31 +1,20 @@
-use Rattle.std.proofs.Common.{length, Ok, Err, sym, refl, ap, ◌∙◌}
-use Rattle.run.specs.Run.{fails}
-use Rattle.stages.proofs.Cards.{one_taken, not_error}
+use Rattle.std.proofs.Common.{length, Ok, Err, ap, ◌∙◌}
+use Rattle.std.proofs.lemmas.Result.{err_from_is_err_and}
+use Rattle.stages.specs.Courses.{text_course}
+use Rattle.keeping.specs.Keeping.{stored_text}
+use Rattle.store.specs.Map.{empty}
+use Rattle.stages.proofs.Cards.{one_taken}
 use Rattle.stages.proofs.card.take_object.Goals as goal
 
-pub returns-in-Ok : goal.returns-in-Ok
-returns-in-Ok g c =
-    let e = c.in-Ok.ensures in
+pub returns-clause-course : goal.returns-clause-course
+returns-clause-course g c = λ wide one roomy next.
+    let e = c.in_ok-take_text.ensures in
     let H = g.S.ReadStore.held in
-    record {
-      course = λ wide one roomy next. one_taken c.args.shares.now c.args.outer (length c.args.list.now) (H c.args.store.now) (H c.take_text.new.store) c.args.text.now next
-          (Ok tt) wide one e.answer (e.after roomy);
-      places = e.places;
-      refused = λ x same. absurd (not_error same);
-      roomy = e.roomy;
-      limits = e.limits;
-    }
+    one_taken c.args.shares.now c.args.outer (length c.args.list.now) (H c.args.store.now) (H c.take_text.new.store) c.args.text.now next (Ok tt) wide one e.answer (e.after roomy)
 
-pub returns-in-Err : goal.returns-in-Err
-returns-in-Err g c =
-    let e = c.in-Err.ensures in
+pub returns-in_err-take_text-clause-course : goal.returns-in_err-take_text-clause-course
+returns-in_err-take_text-clause-course g c = λ wide one roomy next.
+    let e = c.in_err-take_text.ensures in
     let H = g.S.ReadStore.held in
-    record {
-      course = λ wide one roomy next. one_taken c.args.shares.now c.args.outer (length c.args.list.now) (H c.args.store.now) (H c.take_text.new.store) c.args.text.now next
-          (Err c.in-Err.refusal) wide one e.answer (e.after roomy)
-          ∙ ap (λ x. fails x (H c.take_text.new.store)) (sym c.cause_of.ensures);
-      places = tt;
-      refused = λ x same. e.refused c.in-Err.refusal refl;
-      roomy = e.roomy;
-      limits = e.limits;
-    }
+    let p = err_from_is_err_and c.from_residual.result c.from_residual.ensures.1 in
+    rw (p.1, p.2) (one_taken c.args.shares.now c.args.outer (length c.args.list.now) (H c.args.store.now) (H c.take_text.new.store) c.args.text.now next (Err _) wide one e.answer (e.after roomy))
