@@ -27,21 +27,22 @@ fn ask<S: WriteStore>(
     make_call(reader, asked.call, &mut buffer[0..wide], &mut list[0..long])
 }
 
-// Makes the first `n` calls in turn, and keeps their replies.
-fn play_first<S: WriteStore>(
+// Makes the calls in turn, and keeps their replies.
+fn play_all<S: WriteStore>(
     reader: &mut Reader<S>,
     calls: &[Asked],
     buffer: &mut [u8],
     list: &mut [Place],
     replies: &mut [Result<Step, Refusal>],
-    n: usize,
 )
-    requires { (n ≤ length calls.now) × (n ≤ length replies.old) }
-    ensures went { (config : Config) → Went config [] [] (meaning S.ReadStore reader.old) → Went config (latest (asks (length buffer.old) (length list.old)) (take n calls.now) []) (latest (λ r. r) (take n replies.new) []) (meaning S.ReadStore reader.new) }
-    ensures rest { drop n replies.new ≡ drop n replies.old }
+    requires { length calls.now ≤ length replies.old }
+    ensures went { (config : Config) → Went config [] [] (meaning S.ReadStore reader.old) → Went config (latest (asks (length buffer.old) (length list.old)) calls.now []) (latest (λ r. r) (take (length calls.now) replies.new) []) (meaning S.ReadStore reader.new) }
+    ensures rest { drop (length calls.now) replies.new ≡ drop (length calls.now) replies.old }
 {
-    for i in 0..n {
-        replies[i] = ask(reader, calls[i], buffer, list);
+    // By the index: a `zip` with `replies.iter_mut()` lends the replies for the whole loop, and no invariant can name
+    // them.
+    for (i, asked) in calls.iter().enumerate() {
+        replies[i] = ask(reader, *asked, buffer, list);
     }
 }
 
@@ -58,18 +59,14 @@ fn open_and_play<S: WriteStore>(
     ensures came { CameTo (session shares text.now (length buffer.old) (length list.old) calls.now) (meaning S.ReadStore reader.old) result replies.new (meaning S.ReadStore reader.new) }
     ensures rest { drop (calls_made result) replies.new ≡ drop (calls_made result) replies.old }
 {
-    match reader.open(shares, text, list) {
-        Ok(_) => {
-            let n = calls.len().min(replies.len());
-            play_first(reader, calls, buffer, list, replies, n);
-            Ok(n)
-        }
-        Err(refusal) => Err(refusal),
-    }
+    reader.open(shares, text, list)?;
+    let n = calls.len().min(replies.len());
+    play_all(reader, &calls[..n], buffer, list, replies);
+    Ok(n)
 }
 
 // How many calls were made of each of two readers, or why its opening was refused.
-#[derive(Clone, Copy)]
+#[derive(Clone, Copy, PartialEq, Eq, Debug)]
 pub struct Made {
     pub first: Result<usize, Refusal>,
     pub second: Result<usize, Refusal>,

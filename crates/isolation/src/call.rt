@@ -10,7 +10,7 @@ use store::writing::WriteStore;
 use tlv::place::Place;
 
 // A call, with the bytes that it brings.
-#[derive(Clone, Copy)]
+#[derive(Clone, Copy, PartialEq, Eq, Debug)]
 pub enum Call<'a> {
     Write(&'a [u8]),
     Begin(&'a [u8]),
@@ -21,7 +21,7 @@ pub enum Call<'a> {
 }
 
 // A call, and how much of the command buffer and of the work list is lent to it, as far as there is so much.
-#[derive(Clone, Copy)]
+#[derive(Clone, Copy, PartialEq, Eq, Debug)]
 pub struct Asked<'a> {
     pub call: Call<'a>,
     pub buffer: usize,

@@ -1,4 +1,6 @@
-use Rattle.std.proofs.Common.{◌≡◌, [], length, take, Ok, sym, refl, ap, ◌∙◌, subst, arith, rules}
+use Rattle.std.proofs.Common.{◌≡◌, [], length, take, drop, Ok, Err, sym, refl, ap, ◌∙◌, subst, arith, rules}
+use Rattle.std.proofs.lemmas.List.{length-take-le}
+use Rattle.std.proofs.lemmas.Result.{err_from_is_err_and}
 use Rattle.run.specs.Calls.{configured}
 use Rattle.reader.specs.Meanings.{meaning, told}
 use Rattle.isolation.specs.Asked.{asks, latest}
@@ -6,25 +8,29 @@ use Rattle.isolation.specs.Beside.{Went, given}
 use Rattle.isolation.proofs.Going.{nothing_asked}
 use Rattle.isolation.proofs.beside.open_and_play.Goals as goal
 
-pub returns-in-Ok : goal.returns-in-Ok
-returns-in-Ok g c =
-    let o = c.in-Ok.ensures in
-    let p = c.play_first.ensures in
+pub returns : goal.returns
+returns g c =
+    let o = c.in_ok-open.ensures in
+    let p = c.play_all.ensures in
     let config = configured c.args.shares c.args.text.now in
     let n = c.min-n.result in
+    let after = c.play_all.new.replies in
     let long : length c.open.new.list ≡ length c.args.list.now = search rules in
-    let there : length c.play_first.new.replies ≡ length c.args.replies.now = search rules in
+    let there : length after ≡ length c.args.replies.now = search rules in
+    let made : length (take n c.args.calls.now) ≡ n = length-take-le n c.args.calls.now (omega (arith, c.min-n.ensures)) in
     record {
       came = (
         sym (ap (λ d. d.reply) o.opens) ∙ ap (λ s. told (Ok s) []) o.taken,
         omega (arith, c.min-n.ensures, there),
-        subst (λ w. Went config (latest (asks (length c.args.buffer.now) w) (take n c.args.calls.now) []) (given c.play_first.new.replies n) (meaning g.S.ReadStore c.play_first.new.reader)) long
-            (p.went config (nothing_asked config (meaning g.S.ReadStore c.open.new.self) o.stands)),
+        subst (λ w. Went config (latest (asks (length c.args.buffer.now) w) (take n c.args.calls.now) []) (given after n) (meaning g.S.ReadStore c.play_all.new.reader)) long
+            (subst (λ k. Went config (latest (asks (length c.args.buffer.now) (length c.open.new.list)) (take n c.args.calls.now) []) (given after k) (meaning g.S.ReadStore c.play_all.new.reader)) made
+            (p.went config (nothing_asked config (meaning g.S.ReadStore c.open.new.self) o.stands))),
       );
-      rest = p.rest;
+      rest = subst (λ k. drop k after ≡ drop k c.args.replies.now) made p.rest;
     }
 
-pub returns-in-Err : goal.returns-in-Err
-returns-in-Err g c =
-    let o = c.in-Err.ensures in
-    record { came = (sym (ap (λ d. d.reply) o.opens), o.refused c.in-Err.refusal refl); rest = refl }
+pub returns-in_err-open : goal.returns-in_err-open
+returns-in_err-open g c =
+    let o = c.in_err-open.ensures in
+    let p = err_from_is_err_and c.from_residual.result c.from_residual.ensures.1 in
+    record { came = rw (p.1, p.2) (sym (ap (λ d. d.reply) o.opens), o.refused _ refl); rest = refl }

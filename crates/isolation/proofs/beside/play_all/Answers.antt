@@ -6,7 +6,7 @@ use Rattle.isolation.specs.declared.call.Asked.{Asked}
 use Rattle.isolation.specs.Asked.{asks, latest}
 use Rattle.isolation.specs.Beside.{Went}
 use Rattle.isolation.proofs.Going.{went_on, latest_more}
-use Rattle.isolation.proofs.beside.play_first.Goals as goal
+use Rattle.isolation.proofs.beside.play_all.Goals as goal
 
 pub loop-i-preserved : goal.loop-i-preserved
 loop-i-preserved g c =

@@ -3,7 +3,7 @@ use Rattle.run.specs.Calls.{Config}
 use Rattle.reader.specs.Meanings.{meaning}
 use Rattle.isolation.specs.Asked.{asks, latest}
 use Rattle.isolation.specs.Beside.{Went}
-use Rattle.isolation.proofs.beside.play_first.Given as goal
+use Rattle.isolation.proofs.beside.play_all.Given as goal
 
 abbrev pub invariant-loop-i : goal.invariant-loop-i
 invariant-loop-i g l =
