@@ -1,17 +1,13 @@
--- What the parts of a directory store mean.
+-- What a directory store means.
 use Rattle.std.specs.Prelude.{length}
-use Rattle.directory.specs.declared.parts.Parts.{Parts}
+use Rattle.directory.specs.declared.directory.Directory.{Directory}
 use Rattle.store.specs.Map.{Map, Kept}
-use Rattle.directory.specs.Directory.{Ordered, filed_map}
+use Rattle.directory.specs.Directory.{filed_map}
 use Rattle.directory.specs.Kept.{ordered_kept}
 
--- the invariant
-abbrev pub Tidy : Parts → Type 0
-Tidy p = Ordered p.count p.used p.slots.now p.values.now
-
 -- the map
-abbrev pub held_by : Parts → Map
-held_by p = filed_map p.count p.used p.slots.now p.values.now
+abbrev pub held_by : Directory → Map
+held_by d = filed_map d.count d.used d.slots.now d.values.now
 
-pub tidy_kept : (p : Parts) → Tidy p → Kept (held_by p) (length p.slots.now) (length p.values.now)
-tidy_kept p o = ordered_kept p.count p.used p.slots.now p.values.now o
+pub directory_kept : (d : Directory) → Kept (held_by d) (length d.slots.now) (length d.values.now)
+directory_kept d = ordered_kept d.count d.used d.slots.now d.values.now d.ok

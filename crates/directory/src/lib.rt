@@ -2,5 +2,4 @@
 #![tactic(auto)]
 
 pub mod directory;
-mod parts;
 pub mod slot;

@@ -16,44 +16,39 @@ use strip::strip::Strip;
 // The bytes that the values are parts of.
 const TEXT: [u8; 300] = [0x5A; 300];
 
-// Adds a put of so many bytes.
-fn put(steps: &mut Vec<Step>, tag: u32, len: usize) -> Result<(), AllocError> {
-    if let Some(tag) = Tag::new(tag) {
-        steps.push(Step::Put(tag, Part { start: 0, len }))?;
-    }
-    Ok(())
+// A put of so many bytes; none if the number is no tag's.
+fn put(tag: u32, len: usize) -> Option<Step> {
+    Tag::new(tag).map(|tag| Step::Put(tag, Part { start: 0, len }))
 }
 
-// Adds a drop.
-fn drop_tag(steps: &mut Vec<Step>, tag: u32) -> Result<(), AllocError> {
-    if let Some(tag) = Tag::new(tag) {
-        steps.push(Step::Drop(tag))?;
-    }
-    Ok(())
+// A drop; none if the number is no tag's.
+fn drop_tag(tag: u32) -> Option<Step> {
+    Tag::new(tag).map(|tag| Step::Drop(tag))
 }
 
 // Puts and drops that meet each answer in a store of three objects and twelve bytes.
 fn list(heap: Global) -> Result<Vec<Step>, AllocError> {
-    let mut steps = Vec::new(heap);
-    put(&mut steps, 0x9F02, 6)?;
-    put(&mut steps, 0x5A, 6)?;
-    put(&mut steps, 0x82, 1)?;
-    put(&mut steps, 0x82, 0)?;
-    put(&mut steps, 0x9F02, 7)?;
-    put(&mut steps, 0x9F02, 6)?;
-    put(&mut steps, 0x5A, 256)?;
-    put(&mut steps, 0x50, 0)?;
-    drop_tag(&mut steps, 0x82)?;
-    drop_tag(&mut steps, 0x82)?;
-    put(&mut steps, 0x9F02, 4)?;
-    put(&mut steps, 0xDF8121, 2)?;
-    drop_tag(&mut steps, 0x5A)?;
-    put(&mut steps, 0x50, 6)?;
-    put(&mut steps, 0x50, 7)?;
-    Ok(steps)
+    let steps = [
+        put(0x9F02, 6),
+        put(0x5A, 6),
+        put(0x82, 1),
+        put(0x82, 0),
+        put(0x9F02, 7),
+        put(0x9F02, 6),
+        put(0x5A, 256),
+        put(0x50, 0),
+        drop_tag(0x82),
+        drop_tag(0x82),
+        put(0x9F02, 4),
+        put(0xDF8121, 2),
+        drop_tag(0x5A),
+        put(0x50, 6),
+        put(0x50, 7),
+    ];
+    steps.iter().flatten().copied().collect(heap)
 }
 
-// An answer in words.
+// An answer in words: not a `Display`, since the type is another crate's, and a wrapper for it would be longer.
 fn word(answer: StepAnswer) -> &'static str {
     match answer {
         StepAnswer::Put(Ok(())) => "put taken",

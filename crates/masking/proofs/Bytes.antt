@@ -1,7 +1,7 @@
 -- Laws of masked bytes.
-use Rattle.std.proofs.Common.{◌≡◌, ℕ, zero, suc, ◌+◌, ◌%◌, ◌<◌, ◌≤◌, List, [], ◌∷◌, ◌++◌, length, get_or, take, drop, set, sym, refl, ap, ◌∙◌, add-zero, arith}
+use Rattle.std.proofs.Common.{◌≡◌, ℕ, zero, suc, ◌+◌, ◌%◌, ◌<◌, List, [], ◌∷◌, ◌++◌, length, get_or, take, drop, set, sym, refl, ap, ◌∙◌, add-zero, arith}
 use lib.Bits.{bit_xor, xor_assoc, xor_self, xor_zero_r}
-use Rattle.std.proofs.lemmas.List.{take_all, drop_all, append-nil, get_or_at, take_more, drop_more, set_at, append_assoc, length-take-le}
+use Rattle.std.proofs.lemmas.List.{get_or_at, take_more, drop_more, set_at, append_assoc, length-take-le}
 use Rattle.masking.specs.Mask.{masked, MaskedBytes}
 use Rattle.masking.specs.Masks.{length_masked}
 
@@ -51,12 +51,6 @@ masked_turn pad t xs ys i b l e eb =
     ap (λ v. set ys i (bit_xor v b)) a
     ∙ ap (λ v. set ys i (bit_xor (get_or xs i 0) v)) (eb ∙ ap (λ k. get_or pad k 0) j)
     ∙ masked_more pad t xs ys i l e
-
-pub masked_done : (pad : List ℕ) (s : ℕ) (xs ys : List ℕ) (i : ℕ) → length xs ≤ i
-    → ys ≡ masked pad s (take i xs) ++ drop i xs → ys ≡ masked pad s xs
-masked_done pad s xs ys i l e =
-    let a = take_all i xs l in let b = drop_all i xs l in
-    e ∙ ap (λ zs. masked pad s zs ++ drop i xs) a ∙ ap (λ zs. masked pad s xs ++ zs) b ∙ append-nil (masked pad s xs)
 
 -- byte i of a masked value
 masked_byte : (pad : List ℕ) (t : ℕ) (v : List ℕ) (i : ℕ) → i < length v → get_or (masked pad t v) i 0 ≡ bit_xor (get_or v i 0) (get_or pad ((i + t) % 256) 0)

@@ -11,7 +11,7 @@ use store::reading::{NotCopied, ReadStore};
 use store::writing::{Refused, WriteStore};
 
 // The pad that values are masked with.
-#[derive(Clone, Copy)]
+#[derive(Clone, Copy, PartialEq, Eq, Debug)]
 struct Pad {
     bytes: [u8; 256],
 }
@@ -41,11 +41,12 @@ impl Pad {
     }
 
     // Masks each byte in place.
+    #[tactic(auto, using(crate::proofs::Bytes::masked_turn))]
     fn apply(&self, tag: Tag, text: &mut [u8])
         ensures { text.new ≡ masked self.now.bytes tag.value text.old }
     {
-        for i in 0..text.len() {
-            text[i] ^= self.byte_for(tag, i);
+        for (i, byte) in text.iter_mut().enumerate() {
+            *byte ^= self.byte_for(tag, i);
         }
     }
 }
@@ -65,6 +66,7 @@ impl<S: ReadStore> Masking<S> {
     }
 }
 
+#[tactic(auto, using(crate::specs::Masks::count_unmasked, crate::specs::Masks::total_unmasked))]
 impl<S: ReadStore> ReadStore for Masking<S> {
     ghost held = { λ s. unmasked s.pad.bytes (S.ReadStore.held s.lower) };
 

@@ -40,14 +40,15 @@ sound_from o b n u a es h1 h2 h3 h4 k w g =
     record { sound = (h1, h2, h3, h4, (w ∙ ap written (sym e), ap good e ∙ g)); map = ap lookup e }
 
 -- an entry cut out: ys is the area after what lies behind it is copied down
-pub sound_cut : (o b n u : ℕ) (a ys : List ℕ) (t at z n' u' k : ℕ) → Sound o b n u a → (p : Spot (take u a) (entries n (take u a)) t at)
-    → z ≡ 5 + length p.v → length ys ≡ length a → ys ≡ paste a at (drop (at + z) a) k → k ≡ u - (at + z)
+pub sound_cut : (o b n u : ℕ) (a ys : List ℕ) (t at l z n' u' k : ℕ) → Sound o b n u a → Spot (take u a) (entries n (take u a)) t at l
+    → z ≡ 5 + l → length ys ≡ length a → ys ≡ paste a at (drop (at + z) a) k → k ≡ u - (at + z)
     → n' ≡ n - 1 → u' ≡ u - z → Holds o b n' u' ys (changed (contents n u a) t None)
-sound_cut o b n u a ys t at z n' u' k s p size same moved dk dn du =
+sound_cut o b n u a ys t at l z n' u' k s p size same moved dk dn du =
     let pre = p.pre in
     let v = p.v in
     let post = p.post in
     let lc = length_entry t v in
+    let lv = p.long in
     let w : take u' ys ≡ written (pre ++ post) =
     closed_up a ys (written pre) (entry_bytes t v) (written post) u at z u' k s.3 p.text p.place (omega arith) moved dk du
     ∙ sym (written_append pre post) in
@@ -87,11 +88,12 @@ sound_push o b n u a ys t v n' u' s none tag short few room w same dn du =
     record { sound = h.sound; map = h.map ∙ p.map }
 
 -- a value written over one of the same length
-pub sound_over : (o b n u : ℕ) (a ys zs : List ℕ) (t at k : ℕ) (w : List ℕ) → Sound o b n u a → (p : Spot (take u a) (entries n (take u a)) t at)
-    → length p.v ≡ length w → k ≡ length w → zs ≡ w → ys ≡ put_mid (at + 5) k a zs → length ys ≡ length a → Holds o b n u ys (changed (contents n u a) t (Some w))
-sound_over o b n u a ys zs t at k w s p same dk ez moved long =
+pub sound_over : (o b n u : ℕ) (a ys zs : List ℕ) (t at l k : ℕ) (w : List ℕ) → Sound o b n u a → Spot (take u a) (entries n (take u a)) t at l
+    → l ≡ length w → k ≡ length w → zs ≡ w → ys ≡ put_mid (at + 5) k a zs → length ys ≡ length a → Holds o b n u ys (changed (contents n u a) t (Some w))
+sound_over o b n u a ys zs t at l k w s p size dk ez moved long =
     let pre = p.pre in
     let v = p.v in
+    let same : length v ≡ length w = p.long ∙ size in
     let post = p.post in
     let head : List ℕ → List ℕ = λ x. t / 65536 % 256 ∷ t / 256 % 256 ∷ t % 256 ∷ length x / 256 % 256 ∷ length x % 256 ∷ [] in
     let text : take u a ≡ (written pre ++ head v) ++ (v ++ written post) = p.text ∙ sym (append_assoc (written pre) (head v) (v ++ written post)) in

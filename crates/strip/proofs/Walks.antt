@@ -1,13 +1,12 @@
 -- Laws of the bytes that entries are written as, and of a walk over them.
-use Rattle.std.proofs.Common.{◌≡◌, ℕ, suc, ◌+◌, ◌<◌, ◌≤◌, true, List, [], ◌∷◌, ◌++◌, length, take, drop, Some, None, sym, refl, ap, ◌∙◌, arith}
-use Rattle.std.proofs.lemmas.List.{nil_from_length, append_assoc, append-nil, length-append, take_at, drop_at, drop-drop}
+use Rattle.std.proofs.Common.{◌≡◌, ℕ, suc, ◌+◌, ◌-◌, ◌<◌, ◌≤◌, true, List, [], ◌∷◌, ◌++◌, length, take, drop, Some, None, sym, refl, ap, ◌∙◌, arith}
+use Rattle.std.proofs.lemmas.List.{append_assoc, append-nil, length-append, take_at, drop_at, drop-drop}
 use Rattle.store.specs.Map.{empty}
 use Rattle.store.specs.Maps.{changed_other}
 use Rattle.entries.specs.Entries.{Entry, lookup, good}
 use Rattle.entries.proofs.Laws.{good_parts, good_drop, none_append, cut_out}
-use Rattle.strip.specs.Strip.{entry_bytes, written, front_tag, front_length, entries, Laid}
+use Rattle.strip.specs.Strip.{entry_bytes, written, front_tag, front_length, entries}
 use Rattle.strip.specs.Spot.{Spot}
-use Rattle.strip.specs.Kept.{length_entries}
 
 pub written_append : (xs ys : List Entry) → written (xs ++ ys) ≡ written xs ++ written ys
 written_append [] ys = refl
@@ -42,112 +41,112 @@ entries_written (e ∷ es) zs g =
     ∙ entries_front e.0 e.1 (written es ++ zs) (length es) p.tag p.short
     ∙ ap (λ xs. e ∷ xs) (entries_written es zs p.rest)
 
--- A walk over the entries es from the front: i of them lie before the place at, and none has the tag t.
-abbrev pub Walk : List Entry → ℕ → ℕ → ℕ → Type 0
-Walk es t i at =
-    (pre : List Entry) × (post : List Entry) × (es ≡ pre ++ post) × (length pre ≡ i) × (at ≡ length (written pre)) × (lookup pre t ≡ None)
+-- A walk over the entries es from the front: pre are passed, none of them has the tag t, and rest is the bytes of the others.
+pub record Walk (es : List Entry) (t : ℕ) (rest : List ℕ) : Type 0 where
+  pub pre : List Entry
+  pub post : List Entry
+  pub split : es ≡ pre ++ post
+  pub text : rest ≡ written post
+  pub before : lookup pre t ≡ None
 
-pub walk_start : (es : List Entry) (t : ℕ) → Walk es t 0 0
-walk_start es t = ([], es, refl, refl, refl, refl)
+pub walk_start : (bs : List ℕ) (es : List Entry) (t : ℕ) → bs ≡ written es → Walk es t bs
+walk_start bs es t w = record { pre = []; post = es; split = refl; text = w; before = refl }
 
--- the entry at that place
-pub record Here (bs : List ℕ) (es : List Entry) (t i at : ℕ) : Type 0 where
+pub walk_within : (bs : List ℕ) (es : List Entry) (t : ℕ) (rest : List ℕ) → bs ≡ written es → Walk es t rest → length rest ≤ length bs
+walk_within bs es t rest w k =
+    let a = ap length (w ∙ ap written k.split ∙ written_append k.pre k.post) in
+    let b = length-append (written k.pre) (written k.post) in
+    let c = ap length k.text in
+    omega arith
+
+-- the entry at the front of the rest
+pub record Front (es : List Entry) (t : ℕ) (rest : List ℕ) : Type 0 where
   pub pre : List Entry
   pub e : Entry
   pub post : List Entry
   pub split : es ≡ pre ++ e ∷ post
-  pub long : length pre ≡ i
-  pub place : at ≡ length (written pre)
+  pub text : rest ≡ entry_bytes e.0 e.1 ++ written post
   pub before : lookup pre t ≡ None
-  pub tag : front_tag (drop at bs) ≡ e.0
-  pub len : front_length (drop at bs) ≡ length e.1
-  pub room : at + (5 + length e.1) ≤ length bs
+  pub tag : front_tag rest ≡ e.0
+  pub len : front_length rest ≡ length e.1
+  pub room : 5 + front_length rest ≤ length rest
 
-here_of : (bs : List ℕ) (es pre : List Entry) (e : Entry) (post : List Entry) (t i at : ℕ) → bs ≡ written es → good es ≡ true
-    → es ≡ pre ++ e ∷ post → length pre ≡ i → at ≡ length (written pre) → lookup pre t ≡ None → Here bs es t i at
-here_of bs es pre e post t i at w g s n p h =
+front_of : (es pre post : List Entry) (t : ℕ) (rest : List ℕ) → good es ≡ true → 5 ≤ length rest
+    → es ≡ pre ++ post → rest ≡ written post → lookup pre t ≡ None → Front es t rest
+front_of es pre [] t rest g l s w h = let a = ap length w in absurd (omega arith)
+front_of es pre (e ∷ post) t rest g l s w h =
     let q = good_parts e post (good_drop pre (e ∷ post) (ap good (sym s) ∙ g)) in
-    let text : bs ≡ written pre ++ (entry_bytes e.0 e.1 ++ written post) = w ∙ ap written s ∙ written_append pre (e ∷ post) in
-    let rest : drop at bs ≡ entry_bytes e.0 e.1 ++ written post =
-    ap (drop at) text ∙ drop_at (written pre) (entry_bytes e.0 e.1 ++ written post) at (sym p) in
-    let a = ap length text in
-    let b = length-append (written pre) (entry_bytes e.0 e.1 ++ written post) in
-    let c = length-append (entry_bytes e.0 e.1) (written post) in
+    let len : front_length rest ≡ length e.1 = ap front_length w ∙ front_length_is e.0 e.1 (written post) q.short in
+    let a = ap length w in
+    let b = length-append (entry_bytes e.0 e.1) (written post) in
     let d = length_entry e.0 e.1 in
     record {
       pre = pre;
       e = e;
       post = post;
       split = s;
-      long = n;
-      place = p;
+      text = w;
       before = h;
-      tag = ap front_tag rest ∙ front_tag_is e.0 e.1 (written post) q.tag;
-      len = ap front_length rest ∙ front_length_is e.0 e.1 (written post) q.short;
+      tag = ap front_tag w ∙ front_tag_is e.0 e.1 (written post) q.tag;
+      len = len;
       room = omega arith;
     }
 
-walk_at : (bs : List ℕ) (es pre post : List Entry) (t i at : ℕ) → bs ≡ written es → good es ≡ true → i < length es
-    → es ≡ pre ++ post → length pre ≡ i → at ≡ length (written pre) → lookup pre t ≡ None → Here bs es t i at
-walk_at bs es pre [] t i at w g l s n p h =
-    let a = ap length s in let b = length-append pre [] in absurd (omega arith)
-walk_at bs es pre (e ∷ post) t i at w g l s n p h = here_of bs es pre e post t i at w g s n p h
+pub walk_front : (es : List Entry) (t : ℕ) (rest : List ℕ) → good es ≡ true → 5 ≤ length rest → Walk es t rest → Front es t rest
+walk_front es t rest g l k = front_of es k.pre k.post t rest g l k.split k.text k.before
 
-pub walk_here : (bs : List ℕ) (es : List Entry) (t i at : ℕ) → bs ≡ written es → good es ≡ true → i < length es
-    → Walk es t i at → Here bs es t i at
-walk_here bs es t i at w g l k = walk_at bs es k.0 k.1 t i at w g l k.2 k.3 k.4 k.5
+pub walk_on : (es : List Entry) (t : ℕ) (rest : List ℕ) → Front es t rest → (front_tag rest ≡ t → ⊥)
+    → Walk es t (drop (front_length rest) (drop 5 rest))
+walk_on es t rest k ne =
+    let u = k.tag in
+    record {
+      pre = k.pre ++ k.e ∷ [];
+      post = k.post;
+      split = k.split ∙ sym (append_assoc k.pre (k.e ∷ []) k.post);
+      text = ap (λ xs. drop (front_length rest) (drop 5 xs)) k.text ∙ drop_at k.e.1 (written k.post) (front_length rest) (sym k.len);
+      before = none_append k.pre (k.e ∷ []) t k.before (changed_other empty k.e.0 t (Some k.e.1) (λ q. ne (u ∙ sym q)));
+    }
 
-pub here_more : (bs : List ℕ) (es : List Entry) (t i at : ℕ) → Here bs es t i at → (front_tag (drop at bs) ≡ t → ⊥)
-    → Walk es t (i + 1) (at + (5 + front_length (drop at bs)))
-here_more bs es t i at k ne =
-    let a = k.place in
-    let b = k.long in
-    let c = length-append k.pre (k.e ∷ []) in
-    let d = ap length (written_append k.pre (k.e ∷ [])) in
-    let f = length-append (written k.pre) (written (k.e ∷ [])) in
-    let j = length-append (entry_bytes k.e.0 k.e.1) [] in
-    let m = k.len in
-    let u = k.tag in (
-      k.pre ++ k.e ∷ [],
-      k.post,
-      k.split ∙ sym (append_assoc k.pre (k.e ∷ []) k.post),
-      omega arith,
-      omega arith,
-      none_append k.pre (k.e ∷ []) t k.before
-          (changed_other empty k.e.0 t (Some k.e.1) (λ q. ne (u ∙ sym q))),
-    )
+none_left : (es pre post : List Entry) (t : ℕ) (rest : List ℕ) → length rest < 5 → es ≡ pre ++ post → rest ≡ written post
+    → lookup pre t ≡ None → lookup es t ≡ None
+none_left es pre [] t rest l s w h = ap (λ xs. lookup xs t) (s ∙ append-nil pre) ∙ h
+none_left es pre (e ∷ post) t rest l s w h =
+    let a = ap length w in
+    let b = length-append (entry_bytes e.0 e.1) (written post) in
+    let d = length_entry e.0 e.1 in
+    absurd (omega arith)
 
-pub walk_end : (es : List Entry) (t i at : ℕ) → length es ≤ i → Walk es t i at → lookup es t ≡ None
-walk_end es t i at l k =
-    let a = ap length k.2 in let b = length-append k.0 k.1 in let c = k.3 in
-    let z : k.1 ≡ [] = nil_from_length k.1 (omega arith) in
-    ap (λ xs. lookup xs t) (k.2 ∙ ap (λ ys. k.0 ++ ys) z ∙ append-nil k.0) ∙ k.5
+pub walk_end : (es : List Entry) (t : ℕ) (rest : List ℕ) → length rest < 5 → Walk es t rest → lookup es t ≡ None
+walk_end es t rest l k = none_left es k.pre k.post t rest l k.split k.text k.before
 
-pub laid_here : (n : ℕ) (bs : List ℕ) (t i at : ℕ) → Laid n bs → i < n → Walk (entries n bs) t i at → Here bs (entries n bs) t i at
-laid_here n bs t i at l less k =
-    let e = length_entries n bs in walk_here bs (entries n bs) t i at l.0 l.1 (omega arith) k
-
-pub spot_at : (bs : List ℕ) (es pre : List Entry) (v : List ℕ) (post : List Entry) (t at : ℕ) → bs ≡ written es → good es ≡ true
-    → es ≡ pre ++ (t, v) ∷ post → at ≡ length (written pre) → Spot bs es t at
-spot_at bs es pre v post t at w g s p =
-    let g' : good (pre ++ (t, v) ∷ post) ≡ true = ap good (sym s) ∙ g in
-    let q = good_parts (t, v) post (good_drop pre ((t, v) ∷ post) g') in
+pub spot_at : (bs : List ℕ) (es : List Entry) (t at n : ℕ) (rest : List ℕ) → bs ≡ written es → good es ≡ true
+    → (k : Front es t rest) → front_tag rest ≡ t → at ≡ length bs - length rest → n ≡ front_length rest → Spot bs es t at n
+spot_at bs es t at n rest w g k same place size =
+    let pre = k.pre in
+    let v = k.e.1 in
+    let post = k.post in
+    let s : es ≡ pre ++ (t, v) ∷ post = k.split ∙ ap (λ x. pre ++ (x, v) ∷ post) (sym k.tag ∙ same) in
     let text : bs ≡ written pre ++ (entry_bytes t v ++ written post) = w ∙ ap written s ∙ written_append pre ((t, v) ∷ post) in
-    let rest : drop at bs ≡ entry_bytes t v ++ written post =
-    ap (drop at) text ∙ drop_at (written pre) (entry_bytes t v ++ written post) at (sym p) in
+    let long : length v ≡ n = sym k.len ∙ sym size in
     let a = ap length text in
     let b = length-append (written pre) (entry_bytes t v ++ written post) in
     let c = length-append (entry_bytes t v) (written post) in
     let d = length_entry t v in
+    let f = ap length k.text in
+    let h = length-append (entry_bytes k.e.0 v) (written post) in
+    let j = length_entry k.e.0 v in
+    let here : at ≡ length (written pre) = omega arith in
+    let left : drop at bs ≡ entry_bytes t v ++ written post =
+    ap (drop at) text ∙ drop_at (written pre) (entry_bytes t v ++ written post) at (sym here) in
     record {
       pre = pre;
       v = v;
       post = post;
       split = s;
-      place = p;
-      here = ap (λ xs. lookup xs t) s ∙ (cut_out pre t v post g').here;
+      place = here;
+      here = ap (λ xs. lookup xs t) s ∙ (cut_out pre t v post (ap good (sym s) ∙ g)).here;
       text = text;
-      len = ap front_length rest ∙ front_length_is t v (written post) q.short;
+      long = long;
       room = omega arith;
-      value = ap (take (length v)) (sym (drop-drop 5 at bs) ∙ ap (drop 5) rest) ∙ take_at v (written post) (length v) refl;
+      value = ap (take n) (sym (drop-drop 5 at bs) ∙ ap (drop 5) left) ∙ take_at v (written post) n long;
     }

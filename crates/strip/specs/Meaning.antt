@@ -1,16 +1,12 @@
--- What the parts of a strip store mean.
-use Rattle.strip.specs.declared.parts.Parts.{Parts}
+-- What a strip store means.
+use Rattle.strip.specs.declared.strip.Strip.{Strip}
 use Rattle.store.specs.Map.{Map, Kept}
-use Rattle.strip.specs.Strip.{Sound, contents}
+use Rattle.strip.specs.Strip.{contents}
 use Rattle.strip.specs.Kept.{sound_kept}
 
--- the invariant
-abbrev pub Whole : Parts → Type 0
-Whole p = Sound p.objects p.bytes p.count p.used p.area.now
-
 -- the map
-abbrev pub held_by : Parts → Map
-held_by p = contents p.count p.used p.area.now
+abbrev pub held_by : Strip → Map
+held_by s = contents s.count s.used s.area.now
 
-pub whole_kept : (p : Parts) → Whole p → Kept (held_by p) p.objects p.bytes
-whole_kept p s = sound_kept p.objects p.bytes p.count p.used p.area.now s
+pub strip_kept : (s : Strip) → Kept (held_by s) s.objects s.bytes
+strip_kept s = sound_kept s.objects s.bytes s.count s.used s.area.now s.ok

@@ -2,5 +2,4 @@
 #![tactic(auto)]
 
 mod bytes;
-mod parts;
 pub mod strip;

@@ -1,6 +1,5 @@
-use Rattle.std.proofs.Common.{refl}
 use Rattle.masking.proofs.Bytes.{masked_bytes}
 use Rattle.masking.proofs.Pad.new.Goals as goal
 
-pub returns : goal.returns
-returns c = record { bytes = refl; masks = masked_bytes c.args.bytes; empty = refl }
+pub returns-clause-masks : goal.returns-clause-masks
+returns-clause-masks c = masked_bytes c.args.bytes

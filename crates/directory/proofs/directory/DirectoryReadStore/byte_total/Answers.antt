@@ -4,4 +4,4 @@ use Rattle.directory.proofs.directory.DirectoryReadStore.byte_total.Goals as goa
 
 pub returns : goal.returns
 returns c =
-    let r = c.args.self.now.parts in sym (ordered_total r.count r.used r.slots.now r.values.now c.args.self.now.ok)
+    let s = c.args.self.now in sym (ordered_total s.count s.used s.slots.now s.values.now s.ok)

@@ -4,4 +4,4 @@ use Rattle.strip.proofs.strip.StripReadStore.object_count.Goals as goal
 
 pub returns : goal.returns
 returns c =
-    let r = c.args.self.now.parts in sym (sound_count r.objects r.bytes r.count r.used r.area.now c.args.self.now.ok)
+    let s = c.args.self.now in sym (sound_count s.objects s.bytes s.count s.used s.area.now s.ok)
