@@ -56,21 +56,21 @@ struct Lent {
     list: usize,
 }
 
-// What words ask for.
-fn asked(heap: Global, words: &[&str]) -> Result<Line, AllocError> {
+// What words ask for; none if they are not understood.
+fn asked(heap: Global, words: &[&str]) -> Result<Option<Line>, AllocError> {
     match words {
-        [] => Ok(Line::Blank),
+        [] => Ok(Some(Line::Blank)),
         [name] => Ok(of_one(name)),
         [name, a] => of_two(heap, name, a),
         [name, a, b] => of_three(heap, name, a, b),
         [name, a, b, c] => Ok(of_four(name, a, b, c)),
         [name, a, b, c, d] => of_five(heap, name, a, b, c, d),
-        _ => Ok(Line::NotUnderstood),
+        _ => Ok(None),
     }
 }
 
 // What a line asks for: its words are separated by blanks, and `#` starts a comment.
-fn understood(heap: Global, line: &str) -> Result<Line, AllocError> {
+fn understood(heap: Global, line: &str) -> Result<Option<Line>, AllocError> {
     let text = match line.split_once("#") {
         None => line,
         Some((before, _)) => before,
@@ -255,7 +255,11 @@ fn session<S: WriteStore>(
         let Some(text) = next_line(heap, input)? else {
             return Ok(None);
         };
-        let reply = match understood(heap, text.as_str())? {
+        let Some(line) = understood(heap, text.as_str())? else {
+            rt.println(not_understood_line(heap, input.count)?)?;
+            continue;
+        };
+        let reply = match line {
             Line::Blank => continue,
             Line::Store(make) => return Ok(Some(make)),
             Line::Limits => limits_line(
@@ -305,7 +309,6 @@ fn session<S: WriteStore>(
             Line::Wanted => wanted(heap, *lent, reader),
             Line::Object(tag) => object(heap, *lent, reader, tag),
             Line::Record => data_record(heap, *lent, reader),
-            Line::NotUnderstood => not_understood_line(heap, input.count),
         };
         rt.println(reply?)?;
     }

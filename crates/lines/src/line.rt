@@ -53,5 +53,4 @@ pub enum Line {
     Wanted,
     Object(Tag),
     Record,
-    NotUnderstood,
 }
