@@ -1,6 +1,7 @@
 // Words of a line that stand for bytes and tags.
-ghost use Rattle.std.specs.Prelude.{◌≡◌, IfSome, IfOk, vec_items, string_bytes};
+ghost use Rattle.std.specs.Prelude.{◌≡◌, ◌==◌, IfSome, IfOk, drop, vec_items, string_bytes};
 ghost use Rattle.std.specs.Option.{option_map};
+ghost use Rattle.std.specs.List.{prefix_len};
 ghost use Rattle.hexadecimal.specs.Digits.{written};
 ghost use Rattle.lines.specs.Words.{dash, word_bytes, tag_in, sized, one_byte, kind_word, tag_word};
 
@@ -97,14 +98,21 @@ pub fn word_of(heap: Global, bytes: &[u8]) -> Result<String, AllocError>
     written_word(heap, bytes)
 }
 
+// Bytes without the zeros in front.
+fn without_zeros(bytes: &[u8]) -> &[u8]
+    ensures { result.now ≡ drop (prefix_len (λ b. b == 0) bytes.now) bytes.now }
+{
+    let zeros = bytes.iter().take_while(|b| **b == 0).count();
+    &bytes[zeros..]
+}
+
 // A tag as a word: its bytes, two capital digits for each, or `0` for none.
+#[tactic(auto, using(crate::proofs::Tags::written_tag))]
 pub fn tag_word(heap: Global, tag: u32) -> Result<String, AllocError>
     ensures { IfOk result (λ s. string_bytes s ≡ tag_word tag) }
 {
     if tag == 0 {
         return String::from_str(heap, "0");
     }
-    let bytes = tag.to_be_bytes();
-    let zeros = bytes.iter().take_while(|b| **b == 0).count();
-    written_word(heap, &bytes[zeros..])
+    written_word(heap, without_zeros(&tag.to_be_bytes()))
 }
