@@ -1,5 +1,5 @@
 -- The word of a tag.
-use Rattle.std.proofs.Common.{◌≡◌, ℕ, ◌+◌, ◌*◌, ◌/◌, ◌%◌, ◌^◌, ◌<◌, ◌≤◌, true, false, eqb, ltb, List, [], ◌∷◌, drop, sym, refl, ap, ◌∙◌, ⊎_elim, arith}
+use Rattle.std.proofs.Common.{◌≡◌, ℕ, ◌/◌, ◌%◌, ◌^◌, ◌<◌, false, eqb, List, [], ◌∷◌, drop, sym, ap, ◌∙◌, ⊎_elim, arith}
 use mir.Syntax.{w32}
 use Rattle.std.specs.Int.{to_be_bytes}
 use Rattle.std.specs.List.{prefix_len}

@@ -32,15 +32,15 @@ pub fn of_two(heap: Global, name: &str, word: &str) -> Result<Option<Line>, Allo
     ensures { IfOk result (λ o. IfSome o (Asks (name.now ∷ word.now ∷ []))) }
 {
     match name {
-        "generate" => Ok(kind_of(word).map(|kind| Line::Generate(kind))),
-        "fault" => Ok(byte_number(word).map(|code| Line::Fault(code))),
-        "drop" => Ok(tag_of(heap, word)?.map(|tag| Line::Drop(tag))),
-        "length" => Ok(tag_of(heap, word)?.map(|tag| Line::Length(tag))),
-        "object" => Ok(tag_of(heap, word)?.map(|tag| Line::Object(tag))),
-        "afl" => Ok(bytes_of(heap, word)?.map(|bytes| Line::Afl(bytes))),
-        "write" => Ok(bytes_of(heap, word)?.map(|bytes| Line::Write(bytes))),
-        "begin" => Ok(bytes_of(heap, word)?.map(|bytes| Line::Begin(bytes))),
-        "answer" => Ok(bytes_of(heap, word)?.map(|bytes| Line::Answer(bytes))),
+        "generate" => Ok(kind_of(word).map(Line::Generate)),
+        "fault" => Ok(byte_number(word).map(Line::Fault)),
+        "drop" => Ok(tag_of(heap, word)?.map(Line::Drop)),
+        "length" => Ok(tag_of(heap, word)?.map(Line::Length)),
+        "object" => Ok(tag_of(heap, word)?.map(Line::Object)),
+        "afl" => Ok(bytes_of(heap, word)?.map(Line::Afl)),
+        "write" => Ok(bytes_of(heap, word)?.map(Line::Write)),
+        "begin" => Ok(bytes_of(heap, word)?.map(Line::Begin)),
+        "answer" => Ok(bytes_of(heap, word)?.map(Line::Answer)),
         _ => Ok(None),
     }
 }
@@ -55,24 +55,36 @@ pub fn of_three(
     ensures { IfOk result (λ o. IfSome o (Asks (name.now ∷ first.now ∷ second.now ∷ []))) }
 {
     match name {
-        "put" => Ok(tag_of(heap, first)?
-            .zip(bytes_of(heap, second)?)
-            .map(|(tag, value)| Line::Put(tag, value))),
-        "copy" => Ok(tag_of(heap, first)?
-            .zip(number(second))
-            .map(|(tag, n)| Line::Copy(tag, n))),
-        "lend" => Ok(number(first)
-            .zip(number(second))
-            .map(|(buffer, list)| Line::Lend(buffer, list))),
-        "dol" => Ok(bytes_of(heap, first)?
-            .zip(number(second))
-            .map(|(dol, most)| Line::Dol(dol, most))),
-        "tvr" if is_decimal(first) && is_decimal(second) => Ok(exactly(heap, first, 6)?
-            .zip(exactly(heap, second, 6)?)
-            .map(|(amount, floor)| Line::Verify(amount, floor))),
-        "given" => Ok(kind_of(first)
-            .zip(byte_of(heap, second)?)
-            .map(|(kind, byte)| Line::Given(kind, byte))),
+        "put" => Ok(
+            tag_of(heap, first)?
+                .zip(bytes_of(heap, second)?)
+                .map(|(tag, value)| Line::Put(tag, value)),
+        ),
+        "copy" => Ok(
+            tag_of(heap, first)?
+                .zip(number(second))
+                .map(|(tag, n)| Line::Copy(tag, n)),
+        ),
+        "lend" => Ok(
+            number(first)
+                .zip(number(second))
+                .map(|(buffer, list)| Line::Lend(buffer, list)),
+        ),
+        "dol" => Ok(
+            bytes_of(heap, first)?
+                .zip(number(second))
+                .map(|(dol, most)| Line::Dol(dol, most)),
+        ),
+        "tvr" if is_decimal(first) && is_decimal(second) => Ok(
+            exactly(heap, first, 6)?
+                .zip(exactly(heap, second, 6)?)
+                .map(|(amount, floor)| Line::Verify(amount, floor)),
+        ),
+        "given" => Ok(
+            kind_of(first)
+                .zip(byte_of(heap, second)?)
+                .map(|(kind, byte)| Line::Given(kind, byte)),
+        ),
         _ => Ok(None),
     }
 }
@@ -145,17 +157,21 @@ pub fn of_five(
     ensures { IfOk result (λ o. IfSome o (Asks (name.now ∷ first.now ∷ second.now ∷ third.now ∷ fourth.now ∷ []))) }
 {
     match name {
-        "store" => Ok(masked_of(first, second, third, fourth).map(|make| Line::Store(make))),
-        "open" => Ok(shares_of(first, second, third)
-            .zip(bytes_of(heap, fourth)?)
-            .map(|(shares, text)| Line::Open(shares, text))),
+        "store" => Ok(masked_of(first, second, third, fourth).map(Line::Store)),
+        "open" => Ok(
+            shares_of(first, second, third)
+                .zip(bytes_of(heap, fourth)?)
+                .map(|(shares, text)| Line::Open(shares, text)),
+        ),
         // TVR, TAC Denial, TAC Online and Terminal Type.
-        "decide" => Ok(exactly(heap, first, 5)?
-            .zip(exactly(heap, second, 5)?)
-            .zip(exactly(heap, third, 5)?.zip(byte_of(heap, fourth)?))
-            .map(|((tvr, denial), (online, terminal))| {
-                Line::Decide(tvr, denial, online, terminal)
-            })),
+        "decide" => Ok(
+            exactly(heap, first, 5)?
+                .zip(exactly(heap, second, 5)?)
+                .zip(exactly(heap, third, 5)?.zip(byte_of(heap, fourth)?))
+                .map(|((tvr, denial), (online, terminal))| {
+                    Line::Decide(tvr, denial, online, terminal)
+                }),
+        ),
         _ => Ok(None),
     }
 }

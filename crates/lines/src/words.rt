@@ -58,7 +58,7 @@ pub fn byte_of(heap: Global, word: &str) -> Result<Option<u8>, AllocError>
     }
 }
 
-// The kind of cryptogram that a word names.
+// The kind of cryptogram that a word names. Not `FromStr` and `Display`: what `fmt` writes is said by no clause.
 pub fn kind_of(word: &str) -> Option<Cryptogram>
     ensures { IfSome result (λ k. word.now ≡ kind_word k) }
 {
@@ -81,14 +81,14 @@ pub fn name_of(kind: Cryptogram) -> &'static str
     }
 }
 
-// Bytes as a word: capital digits, or `-` for no bytes.
+// Bytes as a word: capital digits, or `-` for no bytes. The reasoning about text stands here, and not at `word_of`, so that
+// a public function has no proof file of its own.
 fn written_word(heap: Global, bytes: &[u8]) -> Result<String, AllocError>
     ensures { IfOk result (λ s. string_bytes s ≡ written bytes.now) }
 {
     let mut digits = Vec::new(heap);
     push_hex(&mut digits, bytes)?;
-    let word = String::from_utf8_lossy(heap, digits.as_slice())?;
-    Ok(word)
+    String::from_utf8_lossy(heap, digits.as_slice())
 }
 
 // Bytes as a word: capital digits, or `-` for no bytes.
