@@ -33,25 +33,22 @@ use store::writing::WriteStore;
 use strip::strip::Strip;
 use tlv::place::Place;
 
-// What words ask for.
-fn asked(heap: Global, words: &[&str]) -> Result<Line, AllocError> {
+// What words ask for; none if they are not understood.
+fn asked(heap: Global, words: &[&str]) -> Result<Option<Line>, AllocError> {
     match words {
-        [] => Ok(Line::Blank),
+        [] => Ok(Some(Line::Blank)),
         [name] => Ok(of_one(name)),
         [name, a] => of_two(heap, name, a),
         [name, a, b] => of_three(heap, name, a, b),
         [name, a, b, c] => Ok(of_four(name, a, b, c)),
         [name, a, b, c, d] => of_five(heap, name, a, b, c, d),
-        _ => Ok(Line::NotUnderstood),
+        _ => Ok(None),
     }
 }
 
 // What a line asks for: its words are separated by blanks, and `#` starts a comment.
-fn understood(heap: Global, line: &str) -> Result<Line, AllocError> {
-    let text = match line.split_once("#") {
-        None => line,
-        Some((before, _)) => before,
-    };
+fn understood(heap: Global, line: &str) -> Result<Option<Line>, AllocError> {
+    let text = line.split_once("#").map_or(line, |(before, _)| before);
     let words: Vec<&str> = text.split_ascii_whitespace().collect(heap)?;
     asked(heap, words.as_slice())
 }
@@ -209,7 +206,11 @@ impl Console {
             let Some(text) = self.next_line()? else {
                 return Ok(None);
             };
-            let reply = match understood(heap, text.as_str())? {
+            let Some(line) = understood(heap, text.as_str())? else {
+                self.rt.println(not_understood_line(heap, self.count)?)?;
+                continue;
+            };
+            let reply = match line {
                 Line::Blank => continue,
                 Line::Store(make) => return Ok(Some(make)),
                 Line::Limits => limits_line(
@@ -273,7 +274,6 @@ impl Console {
                     self.reading("object", |buffer| read_object(reader, tag.number(), buffer))
                 }
                 Line::Record => self.reading("record", |buffer| read_record(reader, buffer)),
-                Line::NotUnderstood => not_understood_line(heap, self.count),
             };
             self.rt.println(reply?)?;
         }

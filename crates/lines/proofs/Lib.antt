@@ -1,2 +1,3 @@
 mod Digits
 mod Hex
+pub mod Tags

@@ -5,7 +5,7 @@ use Rattle.lines.specs.Words.{word_bytes, tag_in, kind_word, sized, one_byte}
 use Rattle.lines.specs.declared.line.Kind.{Kind}
 use Rattle.lines.specs.declared.line.Kind.TheVariants.{Directory, Strip}
 use Rattle.lines.specs.declared.line.Line.{Line}
-use Rattle.lines.specs.declared.line.Line.TheVariants.{Blank, Store, Limits, Held, Put, Drop, Length, Copy, Dol, Options, Afl, Verify, Decide, Generate, Given, Lend, Open, Write, Begin, Answer, Fault, Stop, Clear, Outcome, State, Wanted, Object, Record, NotUnderstood}
+use Rattle.lines.specs.declared.line.Line.TheVariants.{Blank, Store, Limits, Held, Put, Drop, Length, Copy, Dol, Options, Afl, Verify, Decide, Generate, Given, Lend, Open, Write, Begin, Answer, Fault, Stop, Clear, Outcome, State, Wanted, Object, Record}
 
 -- a word of a line
 abbrev pub word : List (List ℕ) → ℕ → List ℕ
@@ -25,7 +25,7 @@ abbrev pub Makes : List (List ℕ) → Bool → Kind → Type 0
 Makes ws true k = Words ws 5 (codes "store") × (word ws 1 ≡ codes "masked") × Sizes ws 2 k
 Makes ws false k = Words ws 4 (codes "store") × Sizes ws 1 k
 
--- What the words are, of a line that is understood so; of one that is not understood nothing is said.
+-- What the words are, of a line that is understood so.
 abbrev pub Asks : List (List ℕ) → Line → Type 0
 Asks ws Blank = ws ≡ []
 Asks ws (Store m) = Makes ws m.masked m.kind
@@ -61,4 +61,3 @@ Asks ws State = Words ws 1 (codes "state")
 Asks ws Wanted = Words ws 1 (codes "wanted")
 Asks ws (Object t) = Words ws 2 (codes "object") × (Some t.value ≡ tag_in (word_bytes (word ws 1)))
 Asks ws Record = Words ws 1 (codes "record")
-Asks ws NotUnderstood = Unit {0}

@@ -4,14 +4,14 @@ use keeping::shares::Shares;
 use keyed::tag::Tag;
 
 // The sizes of a store of either make.
-#[derive(Clone, Copy)]
+#[derive(Clone, Copy, Debug, PartialEq, Eq)]
 pub enum Kind {
     Directory { entries: usize, bytes: usize },
     Strip { objects: usize, length: usize },
 }
 
 // A store to make: its make, and whether a masked store is to stand over it.
-#[derive(Clone, Copy)]
+#[derive(Clone, Copy, Debug, PartialEq, Eq)]
 pub struct Make {
     pub kind: Kind,
     pub masked: bool,
@@ -53,5 +53,4 @@ pub enum Line {
     Wanted,
     Object(Tag),
     Record,
-    NotUnderstood,
 }

@@ -2,17 +2,14 @@
 ghost use Rattle.std.specs.Prelude.{◌≡◌, ◌≤◌, length};
 ghost use Rattle.lines.specs.Numbers.{read_on, number_in, byte_in, all_digits};
 
-// The number that up to nine digits write; none if a byte is no digit.
+// The number that up to nine digits write; none if a byte is no digit. Not `parse`, which takes a sign too.
 fn read_digits(digits: &[u8]) -> Option<usize>
     requires { length digits.now ≤ 9 }
     ensures { result ≡ read_on 0 digits.now }
 {
     let mut n = 0;
     for d in digits {
-        if !d.is_ascii_digit() {
-            return None;
-        }
-        n = n * 10 + (*d - b'0') as usize;
+        n = n * 10 + char::from(*d).to_digit(10)? as usize;
     }
     Some(n)
 }
@@ -32,28 +29,12 @@ pub fn number(word: &str) -> Option<usize>
 pub fn byte_number(word: &str) -> Option<u8>
     ensures { result ≡ byte_in (number_in word.now) }
 {
-    match number(word) {
-        Some(n) if n < 256 => Some(n as u8),
-        Some(_) => Some(255),
-        None => None,
-    }
-}
-
-// Whether bytes are digits 0 to 9 alone.
-fn all_digits(bytes: &[u8]) -> bool
-    ensures { result ≡ all_digits bytes.now }
-{
-    for d in bytes {
-        if !d.is_ascii_digit() {
-            return false;
-        }
-    }
-    true
+    number(word).map(|n| u8::try_from(n).unwrap_or(u8::MAX))
 }
 
 // Whether a word has digits 0 to 9 alone.
 pub(crate) fn is_decimal(word: &str) -> bool
     ensures { result ≡ all_digits word.now }
 {
-    all_digits(word.as_bytes())
+    word.as_bytes().iter().all(|b| b.is_ascii_digit())
 }

@@ -1,4 +1,4 @@
-use Rattle.std.proofs.Common.{◌≡◌, IsUtf8, sym, ◌∙◌, subst, arith, rules}
+use Rattle.std.proofs.Common.{◌≡◌, IsUtf8, sym, subst, arith, rules}
 use Rattle.hexadecimal.specs.Digits.{written}
 use Rattle.lines.proofs.Hex.{written_utf8}
 use Rattle.lines.proofs.words.written_word.Goals as goal
@@ -7,4 +7,5 @@ use Rattle.lines.proofs.words.written_word.Goals as goal
 pub returns : goal.returns
 returns c =
     let e : c.as_slice.result.now ≡ written c.args.bytes.now = search rules in
-    c.in_ok-word.ensures.ok (subst IsUtf8 (sym e) (written_utf8 c.args.bytes.now (λ i. omega (arith, c.type_inv.bytes i)))) ∙ e
+    let utf8 : IsUtf8 c.as_slice.result.now = subst IsUtf8 (sym e) (written_utf8 c.args.bytes.now (λ i. omega (arith, c.type_inv.bytes i))) in
+    search (rules, utf8, e)

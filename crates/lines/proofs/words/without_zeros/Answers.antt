@@ -1,0 +1,17 @@
+use Rattle.std.proofs.Common.{◌≡◌, eqb, ◌∙◌, arith, rules}
+use borrow.Author.Tests.{tests}
+use Rattle.std.specs.List.{prefix_len}
+use Rattle.std.proofs.lemmas.Grind.{common_steps}
+use Rattle.std.proofs.lemmas.List.Folds.{length-prefix_len}
+use Rattle.std.proofs.lemmas.Iterator.{YieldsList-from_slice}
+use Rattle.std.proofs.lemmas.Iterator.Consumers.{count_from_yields_List}
+use Rattle.std.proofs.lemmas.Iterator.Search.{YieldsList-from_take_while}
+use Rattle.lines.proofs.words.without_zeros.Goals as goal
+
+pub returns : goal.returns
+returns c =
+    let n : c.count-zeros.result ≡ prefix_len (λ b. eqb b 0) c.args.bytes.now =
+    count_from_yields_List c.take_while.result _ c.count-zeros.ensures.ran
+    (YieldsList-from_take_while _ (λ b. eqb b 0) (YieldsList-from_slice c.args.bytes.now cc) c.take_while.ensures.closure c.take_while.ensures.done (λ x b q k. search (rules, tests)))
+    ∙ length-prefix_len (λ b. eqb b 0) c.args.bytes.now in
+    grind (arith, common_steps, n)
