@@ -36,8 +36,7 @@ pub(crate) fn first_entry(dol: &[u8]) -> Option<Head<'_>>
 fn with_entry(size: usize, entry: u8, limit: usize) -> Option<usize>
     ensures { MatchOption result (limit < size + entry) (λ n. (n ≡ size + entry) × (n ≤ limit)) }
 {
-    size.checked_add(usize::from(entry))
-        .filter(|n| *n <= limit)
+    size.checked_add(usize::from(entry)).filter(|n| *n <= limit)
 }
 
 // How many bytes a list asks for, which may be at most `limit`.

@@ -1,10 +1,10 @@
-use Rattle.std.proofs.Common.{◌≡◌, ◌+◌, ◌<◌, ◌≤◌, length, Some, ap, ◌∙◌, sym, refl, arith, true-eqb, false-eqb}
+use Rattle.std.proofs.Common.{◌≡◌, ◌+◌, ◌<◌, ◌≤◌, length, Some, ap, ◌∙◌, sym, arith, false-eqb}
 use Rattle.std.specs.Option.{option_map}
 use Rattle.std.proofs.lemmas.Option.{MatchOption-at_some}
 use Rattle.std.proofs.lemmas.Grind.{common_steps}
-use Rattle.dol.specs.Dol.{entries, size_of}
+use Rattle.dol.specs.Dol.{entries}
 use Rattle.dol.specs.Steps.{seen, front}
-use Rattle.dol.proofs.Entries.{after, after_none, counted, over, faulty, counted_all, rest_shorter}
+use Rattle.dol.proofs.Entries.{after, counted}
 use Rattle.dol.proofs.Lawful.{planned, lawful}
 use Rattle.dol.proofs.size.dol_size.Goals as goal
 
