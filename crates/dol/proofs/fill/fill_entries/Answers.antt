@@ -5,9 +5,6 @@ use Rattle.dol.proofs.Fills.{onward_start, fits_first, filled_one, filled_all}
 use Rattle.dol.proofs.Lawful.{written_is}
 use Rattle.dol.proofs.fill.fill_entries.Goals as goal
 
-pub loop-head-init : goal.loop-head-init
-loop-head-init g c = (onward_start (g.S.ReadStore.held c.args.store.now) (entries c.args.dol.now) c.args.out.now, c.requires)
-
 pub overflow_add-end : goal.overflow_add-end
 overflow_add-end g c =
     let fits = fits_first c.loop-head.at (length c.args.out.now) c.loop-head.rest.now (seen c.in-Some.head) c.in-Some.ensures c.loop-head.invariant.1 in
