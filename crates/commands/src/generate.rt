@@ -6,7 +6,8 @@ ghost use Rattle.commands.specs.Building.{roomy, told, written};
 ghost use Rattle.commands.specs.Laws.{GenerateNamed};
 
 use crate::instruction::{CommandFault, Instruction};
-use crate::write::{value_in, write_around};
+use crate::value::value_in;
+use crate::write::write_around;
 use decision::cryptogram::Cryptogram;
 use dol::size::dol_size;
 use store::reading::ReadStore;
@@ -57,7 +58,7 @@ fn generate_for<S: ReadStore>(
 {
     let mut buffer = [0u8; 255];
     let cdol1 = value_in(store, CDOL1, &mut buffer);
-    if cdol1.len() != 0 {
+    if !cdol1.is_empty() {
         return generate_with(store, kind, cdol1, CommandFault::List, command);
     }
     let mut buffer = [0u8; 255];

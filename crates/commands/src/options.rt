@@ -6,7 +6,8 @@ ghost use Rattle.commands.specs.Building.{roomy, told, written};
 ghost use Rattle.commands.specs.Laws.{OptionsNamed};
 
 use crate::instruction::{CommandFault, Instruction};
-use crate::write::{value_in, write_around};
+use crate::value::value_in;
+use crate::write::write_around;
 use dol::size::dol_size;
 use store::reading::ReadStore;
 
