@@ -28,9 +28,7 @@ fn generate_with<S: ReadStore>(
     ensures value { result ≡ told (on_data fault (generate_ac kind) (dol_data (S.held store.now) 255 cdol1.now)) }
     ensures after { command.new ≡ written (on_data fault (generate_ac kind) (dol_data (S.held store.now) 255 cdol1.now)) command.old }
 {
-    let Ok(size) = dol_size(cdol1, 255) else {
-        return Err(fault);
-    };
+    let size = dol_size(cdol1, 255).map_err(|_| fault)?;
     let instruction = Instruction::GenerateAc;
     let header = [
         instruction.class(),

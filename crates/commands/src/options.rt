@@ -23,9 +23,7 @@ fn options_with<S: ReadStore>(
     ensures value { result ≡ told (on_data CommandFault.List get_options (dol_data (S.held store.now) 252 pdol.now)) }
     ensures after { command.new ≡ written (on_data CommandFault.List get_options (dol_data (S.held store.now) 252 pdol.now)) command.old }
 {
-    let Ok(size) = dol_size(pdol, 252) else {
-        return Err(CommandFault::List);
-    };
+    let size = dol_size(pdol, 252).map_err(|_| CommandFault::List)?;
     let instruction = Instruction::GetProcessingOptions;
     let class = instruction.class();
     let code = instruction.instruction();
