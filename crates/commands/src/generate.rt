@@ -64,12 +64,8 @@ fn generate_for<S: ReadStore>(
     generate_with(store, kind, cdol1, CommandFault::DefaultList, command)
 }
 
-// No object moves a byte of the command but CDOL1, Default CDOL1 and those that the serving one names.
-fn only_named_objects_move_it<S: ReadStore>(store: &S, kind: Cryptogram)
-    ensures { GenerateNamed kind (S.held store.now) }
-{}
-
 // Writes the command for a kind of cryptogram and what is held; how many bytes it has.
+#[tactic(auto, using(crate::proofs::Named::generate_named))]
 pub fn generate_ac<S: ReadStore>(
     store: &S,
     kind: Cryptogram,
@@ -79,7 +75,6 @@ pub fn generate_ac<S: ReadStore>(
     ensures after { command.new ≡ written (roomy (length command.old) (generate_command kind (S.held store.now))) command.old }
     ensures law { GenerateNamed kind (S.held store.now) }
 {
-    only_named_objects_move_it(store, kind);
     if command.len() < 261 {
         return Err(CommandFault::ShortBuffer);
     }

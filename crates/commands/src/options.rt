@@ -47,12 +47,8 @@ fn options_for<S: ReadStore>(store: &S, command: &mut [u8]) -> Result<usize, Com
     options_with(store, pdol, command)
 }
 
-// No object moves a byte of the command but the PDOL and those that it names.
-fn only_named_objects_move_it<S: ReadStore>(store: &S)
-    ensures { OptionsNamed (S.held store.now) }
-{}
-
 // Writes the command for what is held; how many bytes it has.
+#[tactic(auto, using(crate::proofs::Named::options_named))]
 pub fn get_processing_options<S: ReadStore>(
     store: &S,
     command: &mut [u8],
@@ -61,7 +57,6 @@ pub fn get_processing_options<S: ReadStore>(
     ensures after { command.new ≡ written (roomy (length command.old) (options_command (S.held store.now))) command.old }
     ensures law { OptionsNamed (S.held store.now) }
 {
-    only_named_objects_move_it(store);
     if command.len() < 261 {
         return Err(CommandFault::ShortBuffer);
     }
