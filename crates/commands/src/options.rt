@@ -36,19 +36,8 @@ fn options_with<S: ReadStore>(
     Ok(write_around(store, &header, pdol, size, command))
 }
 
-// Writes the command for what is held.
-fn options_for<S: ReadStore>(store: &S, command: &mut [u8]) -> Result<usize, CommandFault>
-    requires { 261 ≤ length command.old }
-    ensures value { result ≡ told (options_command (S.held store.now)) }
-    ensures after { command.new ≡ written (options_command (S.held store.now)) command.old }
-{
-    let mut buffer = [0u8; 255];
-    let pdol = value_in(store, PDOL, &mut buffer);
-    options_with(store, pdol, command)
-}
-
 // Writes the command for what is held; how many bytes it has.
-#[tactic(auto, using(crate::proofs::Named::options_named))]
+#[tactic(auto, using(crate::proofs::Named::options_named), unfolding(crate::specs::Commands::options_command))]
 pub fn get_processing_options<S: ReadStore>(
     store: &S,
     command: &mut [u8],
@@ -60,5 +49,7 @@ pub fn get_processing_options<S: ReadStore>(
     if command.len() < 261 {
         return Err(CommandFault::ShortBuffer);
     }
-    options_for(store, command)
+    let mut buffer = [0u8; 255];
+    let pdol = value_in(store, PDOL, &mut buffer);
+    options_with(store, pdol, command)
 }
