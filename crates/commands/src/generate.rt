@@ -44,28 +44,8 @@ fn generate_with<S: ReadStore>(
     Ok(write_around(store, &header, cdol1, size, command))
 }
 
-// Writes the command for a kind of cryptogram and what is held.
-fn generate_for<S: ReadStore>(
-    store: &S,
-    kind: Cryptogram,
-    command: &mut [u8],
-) -> Result<usize, CommandFault>
-    requires { 261 ≤ length command.old }
-    ensures value { result ≡ told (generate_command kind (S.held store.now)) }
-    ensures after { command.new ≡ written (generate_command kind (S.held store.now)) command.old }
-{
-    let mut buffer = [0u8; 255];
-    let cdol1 = value_in(store, CDOL1, &mut buffer);
-    if !cdol1.is_empty() {
-        return generate_with(store, kind, cdol1, CommandFault::List, command);
-    }
-    let mut buffer = [0u8; 255];
-    let cdol1 = value_in(store, DEFAULT_CDOL1, &mut buffer);
-    generate_with(store, kind, cdol1, CommandFault::DefaultList, command)
-}
-
 // Writes the command for a kind of cryptogram and what is held; how many bytes it has.
-#[tactic(auto, using(crate::proofs::Named::generate_named))]
+#[tactic(auto, using(crate::proofs::Named::generate_named), unfolding(crate::specs::Commands::generate_command))]
 pub fn generate_ac<S: ReadStore>(
     store: &S,
     kind: Cryptogram,
@@ -78,5 +58,12 @@ pub fn generate_ac<S: ReadStore>(
     if command.len() < 261 {
         return Err(CommandFault::ShortBuffer);
     }
-    generate_for(store, kind, command)
+    let mut buffer = [0u8; 255];
+    let cdol1 = value_in(store, CDOL1, &mut buffer);
+    if !cdol1.is_empty() {
+        return generate_with(store, kind, cdol1, CommandFault::List, command);
+    }
+    let mut buffer = [0u8; 255];
+    let cdol1 = value_in(store, DEFAULT_CDOL1, &mut buffer);
+    generate_with(store, kind, cdol1, CommandFault::DefaultList, command)
 }
