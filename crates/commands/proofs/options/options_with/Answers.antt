@@ -21,13 +21,6 @@ overflow_cast-n g c =
     let small : c.in_ok-size.size ≤ 252 = (with_data (g.S.ReadStore.held c.args.store.now) 252 c.in_ok-size.size c.args.pdol.now size).most in
     search rules
 
-pub write_around-requires : goal.write_around-requires
-write_around-requires g c =
-    let is : c.dol_size.result ≡ Ok c.in_ok-size.size = grind arith in
-    let size = sym is ∙ c.dol_size.ensures.value in
-    let d = with_data (g.S.ReadStore.held c.args.store.now) 252 c.in_ok-size.size c.args.pdol.now size in
-    record { sized = d.sized; room = omega (arith, d.most) }
-
 pub returns-then-size-lt128 : goal.returns-then-size-lt128
 returns-then-size-lt128 g c =
     let is : c.dol_size.result ≡ Ok c.in_ok-size.size = grind arith in
