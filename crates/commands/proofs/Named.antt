@@ -1,6 +1,5 @@
 -- Only the lists and the objects that they name move a byte of a command.
-use Rattle.std.proofs.Common.{◌≡◌, ℕ, Bool, true, false, cond, not, eqb, List, length, Result, sym, refl, ap, ◌∙◌}
-use Rattle.std.proofs.lemmas.Bool.{cond-true, cond-false, ne_eqb, eq-eqb}
+use Rattle.std.proofs.Common.{◌≡◌, ℕ, Bool, true, false, cond, not, eqb, List, length, Result, refl, ap, ◌∙◌}
 use Rattle.store.specs.Map.{Map}
 use Rattle.decision.specs.declared.cryptogram.Cryptogram.{Cryptogram}
 use Rattle.dol.specs.Dol.{dol_data}
@@ -33,17 +32,3 @@ generate_named kind held other same default agree = by (serves held) refl agree 
     by false e a =
         ap (on_data DefaultList (generate_ac kind)) ((lawful (bytes (held 0xDF_856C))).only_named 255 held other a)
         ∙ ap (λ o. with DefaultList (bytes o)) default
-
--- CDOL1 serves if it has a value
-pub served : (kind : Cryptogram) (held : Map) (l : List ℕ) → l ≡ bytes (held 0x8C) → (length l ≡ 0 → ⊥) → on_data FaultyList (generate_ac kind) (dol_data held 255 l) ≡ generate_command kind held
-unfolding generate_command
-served kind held l is some =
-    let yes : serves held ≡ true = ap not (ne_eqb (length (bytes (held 0x8C))) 0 (λ z. some (ap length is ∙ z))) in
-    ap (λ x. on_data FaultyList (generate_ac kind) (dol_data held 255 x)) is ∙ sym (cond-true (serves held) _ _ yes)
-
--- and else Default CDOL1
-pub not_served : (kind : Cryptogram) (held : Map) (l m : List ℕ) → l ≡ bytes (held 0x8C) → m ≡ bytes (held 0xDF_856C) → length l ≡ 0 → on_data DefaultList (generate_ac kind) (dol_data held 255 m) ≡ generate_command kind held
-unfolding generate_command
-not_served kind held l m is default none =
-    let no : serves held ≡ false = ap not (eq-eqb (length (bytes (held 0x8C))) 0 (ap length (sym is) ∙ none)) in
-    ap (λ x. on_data DefaultList (generate_ac kind) (dol_data held 255 x)) default ∙ sym (cond-false (serves held) _ _ no)

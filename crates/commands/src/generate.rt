@@ -6,7 +6,8 @@ ghost use Rattle.commands.specs.Building.{roomy, told, written};
 ghost use Rattle.commands.specs.Laws.{GenerateNamed};
 
 use crate::instruction::{CommandFault, Instruction};
-use crate::write::{value_in, write_around};
+use crate::value::value_in;
+use crate::write::write_around;
 use decision::cryptogram::Cryptogram;
 use dol::size::dol_size;
 use store::reading::ReadStore;
@@ -27,9 +28,7 @@ fn generate_with<S: ReadStore>(
     ensures value { result ≡ told (on_data fault (generate_ac kind) (dol_data (S.held store.now) 255 cdol1.now)) }
     ensures after { command.new ≡ written (on_data fault (generate_ac kind) (dol_data (S.held store.now) 255 cdol1.now)) command.old }
 {
-    let Ok(size) = dol_size(cdol1, 255) else {
-        return Err(fault);
-    };
+    let size = dol_size(cdol1, 255).map_err(|_| fault)?;
     let instruction = Instruction::GenerateAc;
     let header = [
         instruction.class(),
@@ -45,32 +44,8 @@ fn generate_with<S: ReadStore>(
     Ok(write_around(store, &header, cdol1, size, command))
 }
 
-// Writes the command for a kind of cryptogram and what is held.
-fn generate_for<S: ReadStore>(
-    store: &S,
-    kind: Cryptogram,
-    command: &mut [u8],
-) -> Result<usize, CommandFault>
-    requires { 261 ≤ length command.old }
-    ensures value { result ≡ told (generate_command kind (S.held store.now)) }
-    ensures after { command.new ≡ written (generate_command kind (S.held store.now)) command.old }
-{
-    let mut buffer = [0u8; 255];
-    let cdol1 = value_in(store, CDOL1, &mut buffer);
-    if cdol1.len() != 0 {
-        return generate_with(store, kind, cdol1, CommandFault::List, command);
-    }
-    let mut buffer = [0u8; 255];
-    let cdol1 = value_in(store, DEFAULT_CDOL1, &mut buffer);
-    generate_with(store, kind, cdol1, CommandFault::DefaultList, command)
-}
-
-// No object moves a byte of the command but CDOL1, Default CDOL1 and those that the serving one names.
-fn only_named_objects_move_it<S: ReadStore>(store: &S, kind: Cryptogram)
-    ensures { GenerateNamed kind (S.held store.now) }
-{}
-
 // Writes the command for a kind of cryptogram and what is held; how many bytes it has.
+#[tactic(auto, using(crate::proofs::Named::generate_named), unfolding(crate::specs::Commands::generate_command))]
 pub fn generate_ac<S: ReadStore>(
     store: &S,
     kind: Cryptogram,
@@ -80,9 +55,15 @@ pub fn generate_ac<S: ReadStore>(
     ensures after { command.new ≡ written (roomy (length command.old) (generate_command kind (S.held store.now))) command.old }
     ensures law { GenerateNamed kind (S.held store.now) }
 {
-    only_named_objects_move_it(store, kind);
     if command.len() < 261 {
         return Err(CommandFault::ShortBuffer);
     }
-    generate_for(store, kind, command)
+    let mut buffer = [0u8; 255];
+    let cdol1 = value_in(store, CDOL1, &mut buffer);
+    if !cdol1.is_empty() {
+        return generate_with(store, kind, cdol1, CommandFault::List, command);
+    }
+    let mut buffer = [0u8; 255];
+    let cdol1 = value_in(store, DEFAULT_CDOL1, &mut buffer);
+    generate_with(store, kind, cdol1, CommandFault::DefaultList, command)
 }

@@ -5,4 +5,5 @@ pub mod generate;
 pub mod instruction;
 pub mod options;
 pub mod record;
+pub mod value;
 mod write;

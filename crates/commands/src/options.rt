@@ -6,7 +6,8 @@ ghost use Rattle.commands.specs.Building.{roomy, told, written};
 ghost use Rattle.commands.specs.Laws.{OptionsNamed};
 
 use crate::instruction::{CommandFault, Instruction};
-use crate::write::{value_in, write_around};
+use crate::value::value_in;
+use crate::write::write_around;
 use dol::size::dol_size;
 use store::reading::ReadStore;
 
@@ -22,9 +23,7 @@ fn options_with<S: ReadStore>(
     ensures value { result ≡ told (on_data CommandFault.List get_options (dol_data (S.held store.now) 252 pdol.now)) }
     ensures after { command.new ≡ written (on_data CommandFault.List get_options (dol_data (S.held store.now) 252 pdol.now)) command.old }
 {
-    let Ok(size) = dol_size(pdol, 252) else {
-        return Err(CommandFault::List);
-    };
+    let size = dol_size(pdol, 252).map_err(|_| CommandFault::List)?;
     let instruction = Instruction::GetProcessingOptions;
     let class = instruction.class();
     let code = instruction.instruction();
@@ -37,23 +36,8 @@ fn options_with<S: ReadStore>(
     Ok(write_around(store, &header, pdol, size, command))
 }
 
-// Writes the command for what is held.
-fn options_for<S: ReadStore>(store: &S, command: &mut [u8]) -> Result<usize, CommandFault>
-    requires { 261 ≤ length command.old }
-    ensures value { result ≡ told (options_command (S.held store.now)) }
-    ensures after { command.new ≡ written (options_command (S.held store.now)) command.old }
-{
-    let mut buffer = [0u8; 255];
-    let pdol = value_in(store, PDOL, &mut buffer);
-    options_with(store, pdol, command)
-}
-
-// No object moves a byte of the command but the PDOL and those that it names.
-fn only_named_objects_move_it<S: ReadStore>(store: &S)
-    ensures { OptionsNamed (S.held store.now) }
-{}
-
 // Writes the command for what is held; how many bytes it has.
+#[tactic(auto, using(crate::proofs::Named::options_named), unfolding(crate::specs::Commands::options_command))]
 pub fn get_processing_options<S: ReadStore>(
     store: &S,
     command: &mut [u8],
@@ -62,9 +46,10 @@ pub fn get_processing_options<S: ReadStore>(
     ensures after { command.new ≡ written (roomy (length command.old) (options_command (S.held store.now))) command.old }
     ensures law { OptionsNamed (S.held store.now) }
 {
-    only_named_objects_move_it(store);
     if command.len() < 261 {
         return Err(CommandFault::ShortBuffer);
     }
-    options_for(store, command)
+    let mut buffer = [0u8; 255];
+    let pdol = value_in(store, PDOL, &mut buffer);
+    options_with(store, pdol, command)
 }

@@ -1,25 +1,10 @@
 // What the two commands with data have in common.
 ghost use Rattle.std.specs.Prelude.{◌≡◌, ◌+◌, ◌<◌, length, Ok as Sized};
 ghost use Rattle.dol.specs.Dol.{entries, size_of, dol_data};
-ghost use Rattle.commands.specs.Commands.{bytes};
 ghost use Rattle.commands.specs.Building.{framed};
 
 use dol::fill::fill;
-use keyed::tag::Tag;
 use store::reading::ReadStore;
-
-// A tag's value, in the front of `buffer`: empty where the tag is not held.
-pub(crate) fn value_in<'a, S: ReadStore>(store: &S, tag: u32, buffer: &'a mut [u8; 255]) -> &'a [u8]
-    ensures { result.now ≡ bytes (S.held store.now tag) }
-{
-    let Some(tag) = Tag::new(tag) else {
-        return &buffer[0..0];
-    };
-    let Ok(n) = store.copy_out(tag, buffer) else {
-        return &buffer[0..0];
-    };
-    &buffer[0..n]
-}
 
 // Writes the header, the data that a list asks for, and '00'; how many bytes they are.
 pub(crate) fn write_around<S: ReadStore>(

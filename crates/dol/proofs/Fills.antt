@@ -59,19 +59,23 @@ room_size at n a (Some es) r = omega arith
 pub fits_first : (at n : ℕ) (bs : List ℕ) (f : Front) → Some f ≡ front bs → Room at (entries bs) n → at + f.size ≤ n
 fits_first at n bs f e r = room_size at n (record { tag = f.tag; size = f.size }) (entries f.rest) (subst (λ o. Room at o n) (from_front bs f e) r)
 
--- and once it is written, the rest is left
-pub filled_one : (held : Map) (at n : ℕ) (buf part : List ℕ) (bs : List ℕ) (f : Front) → Some f ≡ front bs → length buf ≡ n → Room at (entries bs) n →
-    length part ≡ length (take (at + f.size - at) (drop at buf)) → part ≡ data_for held f.tag (length (take (at + f.size - at) (drop at buf))) →
-    (onward held (at + f.size) (entries f.rest) (put_mid at (at + f.size - at) buf part) ≡ onward held at (entries bs) buf)
-    × Room (at + f.size) (entries f.rest) n
-filled_one held at n buf part bs f e same r len p =
+-- and once it is written, the rest is left; k is its size
+pub filled_one : (held : Map) (at n k : ℕ) (buf part : List ℕ) (bs : List ℕ) (f : Front) → k ≡ f.size → Some f ≡ front bs → length buf ≡ n → Room at (entries bs) n →
+    length part ≡ length (take (at + k - at) (drop at buf)) → part ≡ data_for held f.tag (length (take (at + k - at) (drop at buf))) →
+    (onward held (at + k) (entries f.rest) (put_mid at (at + k - at) buf part) ≡ onward held at (entries bs) buf)
+    × Room (at + k) (entries f.rest) n
+filled_one held at n k buf part bs f size e same r =
+    let P : ℕ → Type 0 = λ k. length part ≡ length (take (at + k - at) (drop at buf)) → part ≡ data_for held f.tag (length (take (at + k - at) (drop at buf))) →
+    (onward held (at + k) (entries f.rest) (put_mid at (at + k - at) buf part) ≡ onward held at (entries bs) buf)
+    × Room (at + k) (entries f.rest) n in
     let a : Asked = record { tag = f.tag; size = f.size } in
     let r' : Room at (more a (entries f.rest)) (length buf) = subst (λ o. Room at o (length buf)) (from_front bs f e) (subst (λ m. Room at (entries bs) m) (sym same) r) in
     let fits : at + f.size ≤ length buf = room_size at (length buf) a (entries f.rest) r' in
-    let long : length (take (at + f.size - at) (drop at buf)) ≡ f.size = length-between buf at (at + f.size) fits ∙ omega arith in (
+    let long : length (take (at + f.size - at) (drop at buf)) ≡ f.size = length-between buf at (at + f.size) fits ∙ omega arith in
+    subst P (sym size) (λ len p. (
       onward_more held at buf part a (entries f.rest) r' (p ∙ ap (data_for held f.tag) long) (len ∙ long) ∙ ap (λ o. onward held at o buf) (sym (from_front bs f e)),
       subst (λ m. Room (at + f.size) (entries f.rest) m) same (room_some held at buf part a (entries f.rest) r'),
-    )
+    ))
 
 -- at the end nothing is left
 pub filled_all : (held : Map) (at n : ℕ) (buf bs : List ℕ) → None ≡ front bs → Room at (entries bs) n → buf ≡ onward held at (entries bs) buf

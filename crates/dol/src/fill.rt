@@ -16,18 +16,16 @@ fn fill_entry<S: ReadStore>(store: &S, tag: u32, out: &mut [u8])
     let Some(known) = Known::look_up(tag) else {
         return pad_with(out, 0);
     };
-    let Some(n) = store.length_of(known.tag) else {
-        return pad_with(out, 0);
-    };
+    let mut value = [0u8; 255];
+    let n = store.copy_out(known.tag, &mut value).unwrap_or(0);
     if n == 0 {
         return pad_with(out, 0);
     }
-    let mut value = [0u8; 255];
-    let _ = store.copy_out(known.tag, &mut value);
     fit(known.entry.format, &value[0..n], out);
 }
 
-// Writes the data to the front of `out`, entry by entry.
+// Writes the data to the front of `out`, entry by entry. A place in the whole buffer: with the parts of `split_at_mut` it
+// was not proved what the whole buffer holds at the end.
 fn fill_entries<S: ReadStore>(store: &S, dol: &[u8], out: &mut [u8])
     requires { Room 0 (entries dol.now) (length out.old) }
     ensures { out.new ≡ filled (dol_data (S.held store.now) (length out.old) dol.now) out.old }
@@ -35,7 +33,7 @@ fn fill_entries<S: ReadStore>(store: &S, dol: &[u8], out: &mut [u8])
     let mut rest = dol;
     let mut at = 0;
     while let Some(head) = first_entry(rest) {
-        let end = at + head.size as usize;
+        let end = at + usize::from(head.size);
         fill_entry(store, head.tag, &mut out[at..end]);
         at = end;
         rest = head.rest;
@@ -49,11 +47,7 @@ pub fn fill<S: ReadStore>(store: &S, dol: &[u8], out: &mut [u8]) -> Result<usize
     ensures after { out.new ≡ filled (dol_data (S.held store.now) (length out.old) dol.now) out.old }
     ensures law { Lawful dol.now }
 {
-    match dol_size(dol, out.len()) {
-        Ok(size) => {
-            fill_entries(store, dol, out);
-            Ok(size)
-        }
-        Err(fault) => Err(fault),
-    }
+    let size = dol_size(dol, out.len())?;
+    fill_entries(store, dol, out);
+    Ok(size)
 }

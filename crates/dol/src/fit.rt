@@ -37,8 +37,8 @@ pub fn fit(format: Format, value: &[u8], out: &mut [u8])
     match format {
         Format::Numeric => fit_right(value, out),
         Format::CompressedNumeric => fit_left(value, 0xFF, out),
-        Format::Alphanumeric => fit_left(value, 0, out),
-        Format::AlphanumericSpecial => fit_left(value, 0, out),
-        Format::Binary => fit_left(value, 0, out),
+        Format::Alphanumeric | Format::AlphanumericSpecial | Format::Binary => {
+            fit_left(value, 0, out)
+        }
     }
 }

@@ -1,5 +1,5 @@
 -- One object written, and what reading a series of them gives.
-use Rattle.std.proofs.Common.{◌≡◌, ℕ, zero, suc, ◌+◌, ◌-◌, ◌/◌, ◌%◌, ◌<◌, ◌≤◌, Bool, true, false, cond, not, ◌&&◌, eqb, ltb, List, [], ◌∷◌, ◌++◌, length, get_or, take, drop, map, sum, IfSome, Some, None, Ok, Err, Option, Result, sym, refl, ap, ◌∙◌, arith, length-append, eq-eqb, ne_eqb}
+use Rattle.std.proofs.Common.{◌≡◌, ℕ, zero, suc, ◌+◌, ◌-◌, ◌/◌, ◌%◌, ◌<◌, ◌≤◌, Bool, true, false, cond, not, ◌&&◌, eqb, ltb, List, [], ◌∷◌, ◌++◌, length, get_or, take, drop, map, sum, Some, None, Ok, Err, Option, Result, sym, refl, ap, ◌∙◌, arith, length-append, eq-eqb, ne_eqb}
 use borrow.Rule.Slice.PartMut.{put_mid}
 use Rattle.std.proofs.lemmas.Slice.{take-put_mid, drop-put_mid}
 use Rattle.std.proofs.lemmas.Bool.{le-ltb, cond-true, cond-false}
@@ -9,7 +9,6 @@ use Rattle.std.specs.List.{AllByRecursion, sum_by}
 use Rattle.std.specs.Option.{option_map}
 use Rattle.std.specs.Result.{result_unwrap_or}
 use Rattle.store.specs.Map.{Map}
-use Rattle.store.specs.Answer.{copy_after}
 use Rattle.tlv.specs.declared.write.WriteRefusal.{WriteRefusal}
 use Rattle.tlv.specs.declared.write.WriteRefusal.TheVariants.{NoTag, TooLong, Short}
 use Rattle.tlv.specs.Objects.{object, seen, marks_constructed}

@@ -15,6 +15,7 @@ const RECORD: [u32; 28] = [
     0x5F2A, 0x9A, 0x9C, 0x9F37,
 ];
 
+// Those tags. A function, so that its callers have what its contract says of a long constant.
 fn record_tags() -> &'static [u32]
     ensures tags { result.now ≡ record_tags }
     ensures few { length result.now ≤ 64 }

@@ -18,7 +18,8 @@ pub(crate) enum Absent {
     Empty,
 }
 
-// The value of a tag, in the front of `buffer`; none if the tag is not held.
+// The value of a tag, in the front of `buffer`; none if the tag is not held. The buffers for a value and for an object have
+// a fixed size, that of the longest, since there is no heap.
 pub(crate) fn fetch<'b, S: ReadStore>(
     store: &S,
     tag: u32,
@@ -99,7 +100,8 @@ fn sizes_of<S: ReadStore>(store: &S, absent: Absent, tags: &[u32]) -> usize
     tags.iter().map(|tag| size_of(store, absent, *tag)).sum()
 }
 
-// Writes the objects that are shown for tags to the buffer's front.
+// Writes the objects that are shown for tags to the buffer's front. One place in one buffer: the contract tells of the
+// whole buffer, and a part cut off in each turn would have to be put together again.
 fn put_objects<S: ReadStore>(store: &S, absent: Absent, tags: &[u32], out: &mut [u8])
     requires { length (bytes_of (objects_at absent tags.now (S.held store.now))) ≤ length out.old }
     ensures { out.new ≡ at_front (bytes_of (objects_at absent tags.now (S.held store.now))) out.old }

@@ -11,7 +11,7 @@ use tlv::fault::{FaultKind, TextFault};
 use tlv::token::read_tag;
 
 // What stands next in a list: filler and the bytes after it, or a tag with its place and the bytes after it.
-#[derive(Clone, Copy)]
+#[derive(Clone, Copy, PartialEq, Eq, Debug)]
 enum Step<'a> {
     Filler(&'a [u8]),
     Want(u32, usize, &'a [u8]),
@@ -52,14 +52,13 @@ fn take_step<'a>(
             let Some(tag) = Tag::new(number) else {
                 unreachable()
             };
-            match list.add(tag) {
-                Err(NotAdded::Full) => Err(TextFault {
+            if list.add(tag) == Err(NotAdded::Full) {
+                return Err(TextFault {
                     kind: FaultKind::TooMany,
                     at,
-                }),
-                Err(NotAdded::AlreadyThere) => Ok(Some(after)),
-                Ok(()) => Ok(Some(after)),
+                });
             }
+            Ok(Some(after))
         }
     }
 }

@@ -1,5 +1,5 @@
-use Rattle.std.proofs.Common.{refl, arith}
-use Rattle.readout.proofs.Series.{size_more, onward, done}
+use Rattle.std.proofs.Common.{arith}
+use Rattle.readout.proofs.Series.{size_more, onward}
 use Rattle.readout.proofs.object.put_objects.Goals as goal
 
 pub put_shown-at-requires : goal.put_shown-at-requires

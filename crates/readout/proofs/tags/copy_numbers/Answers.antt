@@ -1,4 +1,4 @@
-use Rattle.std.proofs.Common.{◌≡◌, length, take, sym, ap, ◌∙◌, arith}
+use Rattle.std.proofs.Common.{ap, ◌∙◌, arith}
 use Rattle.readout.proofs.Taking.{copied}
 use Rattle.readout.proofs.tags.copy_numbers.Goals as goal
 

@@ -1,4 +1,4 @@
-use Rattle.std.proofs.Common.{◌≡◌, ◌≤◌, length, Ok, sym, ap, ◌∙◌, arith, ltb-false}
+use Rattle.std.proofs.Common.{◌≡◌, Ok, sym, ap, ◌∙◌, arith, ltb-false}
 use Rattle.tlv.specs.Told.{tag_told}
 use Rattle.readout.proofs.Tagged.{whole_tag}
 use Rattle.readout.proofs.tags.next_step.Goals as goal

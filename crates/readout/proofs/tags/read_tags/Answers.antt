@@ -1,7 +1,6 @@
-use Rattle.std.proofs.Common.{length, Ok, sym, ap, ◌∙◌, subst, arith}
+use Rattle.std.proofs.Common.{length, Ok, ap, ◌∙◌}
 use Rattle.std.proofs.lemmas.Result.{err_from_is_err_and}
-use Rattle.keyed.specs.Elements.{elements, memory}
-use Rattle.readout.specs.Shown.{AllTags}
+use Rattle.keyed.specs.Elements.{elements}
 use Rattle.readout.specs.Listing.{numbers, goes_on}
 use Rattle.readout.proofs.Taking.{start, front_is}
 use Rattle.readout.proofs.tags.read_tags.Goals as goal

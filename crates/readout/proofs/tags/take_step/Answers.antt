@@ -1,10 +1,8 @@
-use Rattle.std.proofs.Common.{◌≡◌, ℕ, length, Some, Ok, Err, Result, sym, ap, ◌∙◌, subst, arith}
+use Rattle.std.proofs.Common.{◌≡◌, length, Some, Ok, Err, sym, ap, ◌∙◌, subst, arith}
 use Rattle.std.proofs.lemmas.Result.{err_from_is_err_and}
-use Rattle.keyed.specs.declared.list.NotAdded.{NotAdded}
-use Rattle.keyed.specs.declared.list.NotAdded.TheVariants.{AlreadyThere, Full}
+use Rattle.keyed.specs.declared.list.NotAdded.TheVariants.{Full}
 use Rattle.keyed.specs.Elements.{elements, memory}
-use Rattle.readout.specs.Shown.{AllTags}
-use Rattle.readout.specs.Listing.{Next, filler, want, next_of, numbers, step_told, WholeTag, Whole}
+use Rattle.readout.specs.Listing.{filler, want, next_of, numbers, step_told, WholeTag, Whole}
 use Rattle.readout.proofs.Taking.{at_end_lem, at_filler, at_fault, less, went, full_step}
 use Rattle.readout.proofs.tags.take_step.Goals as goal
 use Rattle.readout.proofs.tags.take_step.Goals.{In-Some-Want}
@@ -33,42 +31,21 @@ returns-in-Some-Filler-clause-step c =
     let q : filler rest ≡ next_of c.args.end bs = ap (λ s. step_told (Ok (Some s))) (sym c.in-Some-Filler.field-0-is) ∙ ap (λ o. step_told (Ok o)) (sym c.in-Some-Filler.is) ∙ c.in_ok-next_step.ensures.value in
     (at_filler c.args.end held bs rest q, less c.args.end held bs (filler rest) q)
 
-pub returns-in-Err-Full-clause-step : goal.returns-in-Err-Full-clause-step
-returns-in-Err-Full-clause-step c =
+pub returns-then-eq-clause-step : goal.returns-then-eq-clause-step
+returns-then-eq-clause-step c =
+    let is : c.add.result ≡ Err Full = grind arith in
     full_step c.args.end (elements c.args.list.now) c.args.text.now c.in-Some.tag c.in-Some-Want.number c.in-Some-Want.at c.in-Some-Want.after.now (length (memory c.args.list.now))
-    (wanted (goal.at.returns-in-Err-Full-clause-step c).In-Some-Want) c.in-Some.ensures c.requires (ap Err (sym c.in-Err-Full.field-0-is) ∙ c.in-Err-Full.ensures.answer)
+    (wanted (goal.at.returns-then-eq-clause-step c).In-Some-Want) c.in-Some.ensures c.requires (sym is ∙ c.add.ensures.answer)
 
--- a list that took the tag, or has it already, is not full
-took : (r : Result (Unit {0}) NotAdded) (x : Unit {0}) → r ≡ Ok x → r ≡ Err Full → ⊥
-took r x e f = let z : ◌≡◌ {A = ℕ} 0 1 = cc in omega arith
-
-has : (r : Result (Unit {0}) NotAdded) → r ≡ Err AlreadyThere → r ≡ Err Full → ⊥
-has r e f = let z : ◌≡◌ {A = ℕ} 0 1 = cc in omega arith
-
-pub returns-in-Ok : goal.returns-in-Ok
-returns-in-Ok c =
-    let at = (goal.at.returns-in-Ok c).In-Some-Want in
+pub returns-else-eq : goal.returns-else-eq
+returns-else-eq c =
+    let at = (goal.at.returns-else-eq c).In-Some-Want in
     let bs = c.args.text.now in
     let rest = c.in-Some-Want.after.now in
     let q = wanted at in
+    let not_full : c.add.result ≡ Err Full → ⊥ = λ e. grind arith in
     let w = went c.args.end (elements c.args.list.now) (elements c.add.new.self) bs c.in-Some.tag c.in-Some-Want.number c.in-Some-Want.at rest
-    c.add.result (length (memory c.args.list.now)) q c.in-Some.ensures (whole at).is c.requires c.add.ensures.answer c.add.ensures.elements (took _ _ c.in-Ok.is) in
-    record {
-      step = (w.on, less c.args.end (numbers (elements c.args.list.now)) bs (want c.in-Some-Want.number c.in-Some-Want.at rest) q);
-      tags = w.tags;
-      room = c.add.ensures.room;
-      named = c.add.ensures.named;
-    }
-
-pub returns-in-Err-AlreadyThere : goal.returns-in-Err-AlreadyThere
-returns-in-Err-AlreadyThere c =
-    let at = (goal.at.returns-in-Err-AlreadyThere c).In-Some-Want in
-    let bs = c.args.text.now in
-    let rest = c.in-Some-Want.after.now in
-    let q = wanted at in
-    let w = went c.args.end (elements c.args.list.now) (elements c.add.new.self) bs c.in-Some.tag c.in-Some-Want.number c.in-Some-Want.at rest
-    c.add.result (length (memory c.args.list.now)) q c.in-Some.ensures (whole at).is c.requires c.add.ensures.answer c.add.ensures.elements
-    (has _ (c.in-Err-AlreadyThere.is ∙ ap Err c.in-Err-AlreadyThere.field-0-is)) in
+    c.add.result (length (memory c.args.list.now)) q c.in-Some.ensures (whole at).is c.requires c.add.ensures.answer c.add.ensures.elements not_full in
     record {
       step = (w.on, less c.args.end (numbers (elements c.args.list.now)) bs (want c.in-Some-Want.number c.in-Some-Want.at rest) q);
       tags = w.tags;
