@@ -12,29 +12,16 @@ use crate::ask::{ask_cryptogram, ask_first};
 use crate::cryptogram::first_byte;
 use crate::missing::{first_missing, none_missing};
 use crate::next::Next;
+use commands::value::value_in;
 use decision::choice::decide;
 use decision::cryptogram::Cryptogram;
 use decision::verification::verify;
 use keeping::reader::put_verification_results;
 use keeping::shares::Shares;
 use keyed::record::Record;
-use keyed::tag::Tag;
 use run::fault::Cause;
 use store::reading::ReadStore;
 use store::writing::WriteStore;
-
-// A tag's value, in the front of `buffer`: empty where the tag is not held.
-fn value_in<'a, S: ReadStore>(store: &S, tag: u32, buffer: &'a mut [u8; 255]) -> &'a [u8]
-    ensures { result.now ≡ bytes (S.ReadStore.held store.now tag) }
-{
-    let Some(tag) = Tag::new(tag) else {
-        return &buffer[0..0];
-    };
-    let Ok(n) = store.copy_out(tag, buffer) else {
-        return &buffer[0..0];
-    };
-    &buffer[0..n]
-}
 
 // The Terminal Verification Results of the amount and the floor limit that are held.
 fn results_of<S: ReadStore>(store: &S) -> [u8; 5]
