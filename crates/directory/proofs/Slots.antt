@@ -1,7 +1,7 @@
 -- Laws of slots, and of a search among them.
 use Rattle.std.proofs.Common.{◌≡◌, ℕ, ◌+◌, ◌-◌, ◌<◌, ◌≤◌, eqb, List, [], ◌∷◌, ◌++◌, length, get_or, take, drop, Some, None, Option, sym, refl, ap, ◌∙◌, subst, ⊎_elim, arith, MatchOption}
 use Rattle.std.specs.Option.{option_map}
-use Rattle.std.proofs.lemmas.List.{take-take, drop-take, drop-drop, get_or_at, append_assoc, append-nil, length-append, length-take-le, length-drop, nil_from_length, take-append-le, drop-append-le, take-append-drop}
+use Rattle.std.proofs.lemmas.List.{take-take, drop-take, drop-drop, get_or_at, append_assoc, length-append, length-take-le, length-drop, nil_from_length, take-append-le, drop-append-le, take-append-drop}
 use Rattle.std.proofs.lemmas.Bool.{cases_eq, eq-eqb, ne_eqb, cond-true, cond-false}
 use Rattle.directory.specs.declared.slot.Slot.{Slot}
 use Rattle.directory.specs.declared.slot.Place.{Place}
@@ -92,12 +92,6 @@ next_more ss t i at s n ne =
       slot_at_append n.pre (s ∷ []) t n.before
           ∙ cond-false (eqb t s.tag) (Some s.size) None (ne_eqb t s.tag (λ q. ne (sym q))),
     )
-
-pub passed_end : (ss : List Slot) (t i at : ℕ) → length ss ≤ i → Passed ss t i at → slot_at ss t ≡ None
-passed_end ss t i at l p =
-    let a = ap length p.2 in let b = length-append p.0 p.1 in let c = p.3 in
-    let z : p.1 ≡ [] = nil_from_length p.1 (omega arith) in
-    ap (λ xs. slot_at xs t) (p.2 ∙ ap (λ ys. p.0 ++ ys) z ∙ append-nil p.0) ∙ p.5
 
 -- slots and entries hold the same tags at the same lengths
 pub lengths_cut : (ss : List Slot) (vs : List ℕ) (t : ℕ) → sizes ss ≤ length vs → option_map length (lookup (cut ss vs) t) ≡ slot_at ss t

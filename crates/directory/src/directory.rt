@@ -63,6 +63,7 @@ impl<'a> Directory<'a> {
     }
 }
 
+#[tactic(auto, using(crate::specs::Kept::ordered_count, crate::specs::Kept::ordered_total))]
 impl<'a> ReadStore for Directory<'a> {
     ghost use Rattle.directory.specs.Meaning.{held_by, directory_kept};
 

@@ -218,6 +218,3 @@ length_put_mid a k xs ys h e =
 -- a tag whose value has a length is held
 pub held_length : (o : Option (List ℕ)) (n : ℕ) → option_map length o ≡ Some n → (v : List ℕ) → o ≡ Some v → length v ≡ n
 held_length o n e v h = let a : Some (length v) ≡ Some n = sym (ap (option_map length) h) ∙ e in cc
-
-pub never_absent : (o : Option (List ℕ)) (n : ℕ) → option_map length o ≡ Some n → o ≡ None → ⊥
-never_absent o n e h = let a : option_map length o ≡ None = ap (option_map length) h in let z : ◌≡◌ {A = ℕ} 0 1 = cc in omega arith

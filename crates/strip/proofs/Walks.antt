@@ -49,9 +49,6 @@ pub record Walk (es : List Entry) (t : ℕ) (rest : List ℕ) : Type 0 where
   pub text : rest ≡ written post
   pub before : lookup pre t ≡ None
 
-pub walk_start : (bs : List ℕ) (es : List Entry) (t : ℕ) → bs ≡ written es → Walk es t bs
-walk_start bs es t w = record { pre = []; post = es; split = refl; text = w; before = refl }
-
 pub walk_within : (bs : List ℕ) (es : List Entry) (t : ℕ) (rest : List ℕ) → bs ≡ written es → Walk es t rest → length rest ≤ length bs
 walk_within bs es t rest w k =
     let a = ap length (w ∙ ap written k.split ∙ written_append k.pre k.post) in
