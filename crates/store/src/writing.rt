@@ -15,6 +15,7 @@ pub enum Refused {
     NoRoom,
 }
 
+// A clause `limits` compares a store with what it was before the call, which no invariant of one state can say.
 pub trait WriteStore: ReadStore {
     // Holds the value under the tag, in the place of what was held there.
     fn put(&mut self, tag: Tag, value: &[u8]) -> Result<(), Refused>

@@ -158,6 +158,7 @@ impl<'a> Pack for Strip<'a> {
     }
 }
 
+// Written in each make and not once for every `Pack`: the edits of a make's own `put` and `remove` need a place in its crate.
 impl<'a> WriteStore for Strip<'a> {
     fn put(&mut self, tag: Tag, value: &[u8]) -> Result<(), Refused> {
         put_in(self, tag, value)
