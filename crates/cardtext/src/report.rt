@@ -12,13 +12,6 @@ use tlv::fault::TextFault;
 use tlv::place::Place;
 use tlv::text::{ReadRefusal, read_text};
 
-const BLANK: Place = Place {
-    tag: 0,
-    at: 0,
-    start: 0,
-    len: 0,
-};
-
 // A number in decimal.
 pub fn push_number(out: &mut Vec<u8>, n: usize) -> Result<(), AllocError>
     ensures { OnOk result (out.new.items ≡ out.old.items ++ decimal n) }
@@ -87,7 +80,7 @@ fn push_reading(out: &mut Vec<u8>, text: &[u8]) -> Result<(), AllocError>
     ensures items { OnOk result (out.new.items ≡ out.old.items ++ reading_lines text.now (meaning text.now)) }
     ensures each { OnOk result (EachTold text.now) }
 {
-    let mut list = [BLANK; 64];
+    let mut list = [Place::default(); 64];
     match read_text(text, &mut list) {
         Ok(n) => {
             push_objects(out, text, &list[..n])?;

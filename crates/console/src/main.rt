@@ -95,7 +95,7 @@ fn command<F: FnOnce(&mut [u8]) -> Result<usize, CommandFault>>(
 
 // The records of an AFL.
 fn records(heap: Global, afl: &[u8]) -> Result<String, AllocError> {
-    let mut records = [Record { sfi: 0, number: 0 }; 64];
+    let mut records = [Record::default(); 64];
     match read_afl(afl, &mut records) {
         Ok(n) => records_line(heap, &records[..n.min(64)]),
         Err(_) => fault_line(heap, "afl"),
@@ -121,13 +121,6 @@ struct Lent {
     buffer: usize,
     list: usize,
 }
-
-const BLANK: Place = Place {
-    tag: 0,
-    at: 0,
-    start: 0,
-    len: 0,
-};
 
 // The store that is made before a line asks for one.
 const FIRST: Make = Make {
@@ -170,7 +163,7 @@ impl Console {
         requires { F.IsAlwaysCallable call }
     {
         let mut buffer = vec![in self.heap; 0u8; buffer]?;
-        let mut list = vec![in self.heap; BLANK; self.lent.list]?;
+        let mut list = vec![in self.heap; Place::default(); self.lent.list]?;
         let answer = call(buffer.as_mut_slice(), list.as_mut_slice());
         step_line(self.heap, name, answer, buffer.as_slice())
     }
@@ -304,7 +297,7 @@ impl Console {
         let make = asked.unwrap_or(FIRST);
         match make.kind {
             Kind::Directory { entries, bytes } => {
-                let mut slots = vec![in self.heap; Slot { tag: 0, size: 0 }; entries]?;
+                let mut slots = vec![in self.heap; Slot::default(); entries]?;
                 let mut values = vec![in self.heap; 0u8; bytes]?;
                 let store = Directory::new(slots.as_mut_slice(), values.as_mut_slice());
                 self.serve(asked, make.masked, store)

@@ -6,7 +6,7 @@ ghost use Rattle.directory.specs.Found.{At};
 use keyed::tag::Tag;
 
 // An object of a directory: its tag, and how many bytes its value has. What an unused slot holds is free.
-#[derive(Clone, Copy, PartialEq, Eq, Debug)]
+#[derive(Clone, Copy, PartialEq, Eq, Debug, Default)]
 pub struct Slot {
     pub tag: u32,
     pub size: u8,

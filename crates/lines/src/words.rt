@@ -58,7 +58,7 @@ pub fn byte_of(heap: Global, word: &str) -> Result<Option<u8>, AllocError>
     }
 }
 
-// The kind of cryptogram that a word names. Not `FromStr` and `Display`: what `fmt` writes is said by no clause.
+// The kind of cryptogram that a word names. Not `FromStr` and `Display`: neither can be written here for a type of another crate.
 pub fn kind_of(word: &str) -> Option<Cryptogram>
     ensures { IfSome result (λ k. word.now ≡ kind_word k) }
 {

@@ -81,7 +81,7 @@ fn main(rt: HostRuntime) -> io::Result<()> {
     let mut first = [StepAnswer::Drop(false); 16];
     let mut second = [StepAnswer::Drop(false); 16];
 
-    let mut slots = [Slot { tag: 0, size: 0 }; 3];
+    let mut slots = [Slot::default(); 3];
     let mut values = [0; 12];
     let mut area = [0; 27];
     let n = directory_beside_strip(

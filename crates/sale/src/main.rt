@@ -26,13 +26,6 @@ use store::writing::WriteStore;
 use strip::strip::Strip;
 use tlv::place::Place;
 
-const BLANK: Place = Place {
-    tag: 0,
-    at: 0,
-    start: 0,
-    len: 0,
-};
-
 // Bytes in hexadecimal digits.
 fn digits(heap: Global, bytes: &[u8]) -> Result<String, AllocError> {
     let mut out = Vec::new(heap);
@@ -163,7 +156,7 @@ fn sell<S: WriteStore>(
     answers: &[&[u8]],
 ) -> io::Result<()> {
     let mut buffer = [0; 261];
-    let mut list = [BLANK; 64];
+    let mut list = [Place::default(); 64];
     let told = reader.write(&SALE, &mut list);
     print_step(rt, "write", told, &buffer)?;
     let told = reader.begin(fci, &mut buffer, &mut list);
@@ -178,7 +171,7 @@ fn sell<S: WriteStore>(
 // The sales of two cards at a reader over a new store.
 fn two_sales<S: WriteStore + Drop>(rt: &HostRuntime, store: S) -> io::Result<()> {
     let mut reader = Reader::new(store);
-    let mut list = [BLANK; 64];
+    let mut list = [Place::default(); 64];
     rt.println("A reader is opened")?;
     let told = reader.open(SHARES, &CONFIGURATION, &mut list);
     print_step(rt, "open", told, &[])?;
@@ -253,7 +246,7 @@ fn two_readers<S: WriteStore + Drop, T: WriteStore + Drop>(
     let mut first = Reader::new(store);
     let mut second = Reader::new(other);
     let mut buffer = [0; 261];
-    let mut list = [BLANK; 64];
+    let mut list = [Place::default(); 64];
     let calls = [
         with_list(Call::Write(&SALE), 63),
         with_list(Call::Write(&SALE), 64),
@@ -303,7 +296,7 @@ fn main(rt: HostRuntime) -> io::Result<()> {
     let mut area = [0; 720];
     two_sales(&rt, Strip::new(&mut area, 64))?;
     rt.println("Both cards at two readers side by side: a directory, and a masked strip")?;
-    let mut slots = [Slot { tag: 0, size: 0 }; 64];
+    let mut slots = [Slot::default(); 64];
     let mut values = [0; 400];
     let directory = Directory::new(&mut slots, &mut values);
     let mut other_area = [0; 720];
