@@ -19,7 +19,7 @@ pub(crate) struct Head<'a> {
     pub(crate) rest: &'a [u8],
 }
 
-// None where the list is empty or its first entry is faulty.
+// The first entry, whose tag stands as an object's does; none where the list is empty or the entry is faulty.
 pub(crate) fn first_entry(dol: &[u8]) -> Option<Head<'_>>
     ensures { option_map seen result ≡ front dol.now }
 {

@@ -18,8 +18,8 @@ pub(crate) enum Absent {
     Empty,
 }
 
-// The value of a tag, in the front of `buffer`; none if the tag is not held. The buffers for a value and for an object have
-// a fixed size, that of the longest, since there is no heap.
+// The value of a tag, in the front of `buffer`; none if the tag is not held. The buffers for a value and for an object
+// have a fixed size, that of the longest, since there is no heap.
 pub(crate) fn fetch<'b, S: ReadStore>(
     store: &S,
     tag: u32,
