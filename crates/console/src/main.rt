@@ -116,7 +116,7 @@ fn pad() -> [u8; 256] {
 }
 
 // The lengths of the buffers and of the work lists that are lent to calls.
-#[derive(Clone, Copy)]
+#[derive(Clone, Copy, PartialEq, Eq, Debug)]
 struct Lent {
     buffer: usize,
     list: usize,

@@ -26,7 +26,7 @@ pub fn lookup(tag: u32) -> Option<Entry>
 }
 
 // A tag of the dictionary, with its entry.
-#[derive(Clone, Copy)]
+#[derive(Clone, Copy, PartialEq, Eq, Debug)]
 pub struct Known {
     pub tag: Tag,
     pub entry: Entry,

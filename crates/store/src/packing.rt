@@ -32,7 +32,7 @@ pub trait Pack: ReadStore {
 }
 
 // How full a store is: its limits, how many objects it holds, and how many value bytes.
-#[derive(Clone, Copy)]
+#[derive(Clone, Copy, PartialEq, Eq, Debug)]
 struct Fill {
     objects: usize,
     bytes: usize,

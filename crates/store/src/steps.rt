@@ -14,7 +14,7 @@ pub struct Part {
 }
 
 // A call that changes a store.
-#[derive(Clone, Copy)]
+#[derive(Clone, Copy, PartialEq, Eq, Debug)]
 pub enum Step {
     // Put that part of the text under the tag.
     Put(Tag, Part),

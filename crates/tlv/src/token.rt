@@ -7,7 +7,7 @@ use crate::fault::{FaultKind, TextFault};
 
 // What stands next in a series: its end, a primitive object with its value, or a constructed object with its inside.
 // `at` is the place of the object's first byte, and `start` that of its value's or its inside's.
-#[derive(Clone, Copy)]
+#[derive(Clone, Copy, PartialEq, Eq, Debug)]
 pub enum Token<'a> {
     End,
     Primitive {
