@@ -76,10 +76,6 @@ abbrev pub after : ℕ → ℕ → Option (List Asked) → Result ℕ DolFault
 after n limit None = Err (record {})
 after n limit (Some es) = cond (leb (n + total es) limit) (Ok (n + total es)) (Err (record {}))
 
-pub after_none : (limit : ℕ) (o : Option (List Asked)) → after 0 limit o ≡ size_of limit o
-after_none limit None = refl
-after_none limit (Some es) = ap (λ m. cond (leb m limit) (Ok m) (Err (record {}))) (zero-add (total es))
-
 after_more : (n limit : ℕ) (a : Asked) (o : Option (List Asked)) → after n limit (more a o) ≡ after (n + a.size) limit o
 after_more n limit a None = refl
 after_more n limit a (Some es) = ap (λ m. cond (leb m limit) (Ok m) (Err (record {}))) (sym (add_assoc n a.size (total es)))
@@ -98,7 +94,3 @@ module _ (n limit : ℕ) (bs : List ℕ) where
 
   pub faulty : 0 < length bs → None ≡ front bs → Err (record {}) ≡ after n limit (entries bs)
   faulty h e = sym (ap (after n limit) (entries_front bs h ∙ ap taken (sym e)))
-
-  pub counted_all : length bs ≡ 0 → n ≤ limit → Ok n ≡ after n limit (entries bs)
-  counted_all e h =
-      sym (ap (λ l. after n limit (entries l)) (nil_from_length bs e) ∙ ap (λ m. cond (leb m limit) (Ok m) (Err (record {}))) (add-zero n) ∙ cond-true _ _ _ (le-leb n limit h))
