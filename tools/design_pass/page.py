@@ -2,9 +2,9 @@
 # OLD at the commit of the page's first line. Works with the kit's /opt/rattle/port/contracts.py.
 import json,re,subprocess
 import os,sys
-old,new=sys.argv[1],sys.argv[2]
+was,now=sys.argv[1],sys.argv[2]
 here=os.path.dirname(os.path.abspath(__file__))
-d=json.loads(subprocess.run(['python3','/opt/rattle/port/contracts.py',old,new,'--json'],capture_output=True,text=True).stdout)
+d=json.loads(subprocess.run(['python3','/opt/rattle/port/contracts.py',was,now,'--json'],capture_output=True,text=True).stdout)
 head=open(here+'/head.md').read()
 out=[head.rstrip('\n'),'']
 def esc(s): return s.replace('|','\\|').replace('\n',' ')
@@ -19,12 +19,12 @@ def is_pub(entry,root):
     return re.search(r'pub fn %s\b'%re.escape(name),s) is not None or ' for ' in n or n.split()[0] in ('ReadStore','WriteStore')
 pub=[];priv=[]
 for e,o,n in d['signatures changed']:
-    (pub if is_pub(e,old) or is_pub(e,new) else priv).append(('signature',e,[o],[n]))
+    (pub if is_pub(e,was) or is_pub(e,now) else priv).append(('signature',e,[o],[n]))
 for e,ro,eo,rn,en in d['contracts changed']:
     f=lambda k,cs: ['%s %s{ %s }'%(k,(c[0]+' ') if c[0] else '',c[1]) for c in cs]
     old=f('requires',ro)+f('ensures',eo); new=f('requires',rn)+f('ensures',en)
     o2=[x for x in old if x not in new]; n2=[x for x in new if x not in old]
-    (pub if is_pub(e,old) or is_pub(e,new) else priv).append(('clauses',e,o2,n2))
+    (pub if is_pub(e,was) or is_pub(e,now) else priv).append(('clauses',e,o2,n2))
 def show(lst):
     out.append('```text')
     for k,e,o,n in lst:
@@ -50,5 +50,5 @@ for x in g['changed']:
     e=x[0]; out.append(e if isinstance(e,str) else str(e)); out.append('    - '+(x[1] if isinstance(x[1],str) else ' '.join(x[1]))); out.append('    + '+(x[2] if isinstance(x[2],str) else ' '.join(x[2])))
 out.append('```\n')
 out.append(open(here+'/gone.md').read().rstrip('\n'))
-out.append(subprocess.run(['python3',here+'/lemmas.py',old,new],capture_output=True,text=True).stdout.rstrip('\n'))
-open(new+'/docs/DESIGN-PASS.md','w').write('\n'.join(out)+'\n')
+out.append(subprocess.run(['python3',here+'/lemmas.py',was,now],capture_output=True,text=True).stdout.rstrip('\n'))
+open(now+'/docs/DESIGN-PASS.md','w').write('\n'.join(out)+'\n')
