@@ -226,25 +226,12 @@ impl<S: WriteStore> Reader<S> {
         requires long { 64 ≤ length list.old }
         requires waiting { waits (meaning S.ReadStore self.old).phase ≡ true }
         ensures does { Roomy (meaning S.ReadStore self.old) → Does (meaning S.ReadStore self.old) (answer bytes.now (length buffer.old) (length list.old)) (told (Ok result) buffer.new) (meaning S.ReadStore self.new) }
-        ensures rest { buffer.new ≡ buffered (told (Ok result) buffer.new) buffer.old }
-        ensures fits { step_length result ≤ length buffer.old }
-    {
-        self.run_answer(bytes, buffer, list)
-    }
-
-    // Takes an answer that no check refuses, lawfully.
-    fn take_answer_lawfully(&mut self, bytes: &[u8], buffer: &mut [u8], list: &mut [Place]) -> Step
-        requires opened { self.old.opened ≡ true }
-        requires wide { 261 ≤ length buffer.old }
-        requires long { 64 ≤ length list.old }
-        requires waiting { waits (meaning S.ReadStore self.old).phase ≡ true }
-        ensures does { Roomy (meaning S.ReadStore self.old) → Does (meaning S.ReadStore self.old) (answer bytes.now (length buffer.old) (length list.old)) (told (Ok result) buffer.new) (meaning S.ReadStore self.new) }
         ensures law { Lawful (meaning S.ReadStore self.old) (answer bytes.now (length buffer.old) (length list.old)) (told (Ok result) buffer.new) (meaning S.ReadStore self.new) }
         ensures rest { buffer.new ≡ buffered (told (Ok result) buffer.new) buffer.old }
         ensures fits { step_length result ≤ length buffer.old }
     {
         law_of_calls();
-        self.take_answer(bytes, buffer, list)
+        self.run_answer(bytes, buffer, list)
     }
 
     // The card answers the command that was handed out.
@@ -270,6 +257,6 @@ impl<S: WriteStore> Reader<S> {
         if !self.waits() {
             return Err(Refusal::NoCommand);
         }
-        Ok(self.take_answer_lawfully(bytes, buffer, list))
+        Ok(self.take_answer(bytes, buffer, list))
     }
 }

@@ -90,28 +90,14 @@ impl<S: WriteStore> Reader<S> {
         requires fresh { self.old.begun ≡ false }
         requires needed { first_missing needed_tags (S.ReadStore.held self.old.store) ≡ None }
         ensures does { Roomy (meaning S.ReadStore self.old) → Does (meaning S.ReadStore self.old) (begin fci.now (length buffer.old) (length list.old)) (told (Ok result) buffer.new) (meaning S.ReadStore self.new) }
-        ensures rest { buffer.new ≡ buffered (told (Ok result) buffer.new) buffer.old }
-        ensures fits { step_length result ≤ length buffer.old }
-    {
-        self.begun = true;
-        self.count = 0;
-        self.run_fci(fci, buffer, list)
-    }
-
-    // Begins a sale that no check refuses, lawfully.
-    fn start_lawfully(&mut self, fci: &[u8], buffer: &mut [u8], list: &mut [Place]) -> Step
-        requires opened { self.old.opened ≡ true }
-        requires wide { 261 ≤ length buffer.old }
-        requires long { 64 ≤ length list.old }
-        requires fresh { self.old.begun ≡ false }
-        requires needed { first_missing needed_tags (S.ReadStore.held self.old.store) ≡ None }
-        ensures does { Roomy (meaning S.ReadStore self.old) → Does (meaning S.ReadStore self.old) (begin fci.now (length buffer.old) (length list.old)) (told (Ok result) buffer.new) (meaning S.ReadStore self.new) }
         ensures law { Lawful (meaning S.ReadStore self.old) (begin fci.now (length buffer.old) (length list.old)) (told (Ok result) buffer.new) (meaning S.ReadStore self.new) }
         ensures rest { buffer.new ≡ buffered (told (Ok result) buffer.new) buffer.old }
         ensures fits { step_length result ≤ length buffer.old }
     {
         law_of_calls();
-        self.start(fci, buffer, list)
+        self.begun = true;
+        self.count = 0;
+        self.run_fci(fci, buffer, list)
     }
 
     // A sale begins, with the FCI that the card gave when it was selected.
@@ -140,6 +126,6 @@ impl<S: WriteStore> Reader<S> {
         if let Some(tag) = first_missing(&self.store, &NEEDED) {
             return Err(Refusal::Needed(tag));
         }
-        Ok(self.start_lawfully(fci, buffer, list))
+        Ok(self.start(fci, buffer, list))
     }
 }

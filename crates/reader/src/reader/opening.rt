@@ -65,23 +65,8 @@ impl<S: WriteStore> Reader<S> {
         Ok(Step::Taken)
     }
 
-    // Opens a closed reader, if its store serves.
+    // Opens a closed reader, if its store serves; it then stands.
     fn open_store(
-        &mut self,
-        shares: Shares,
-        text: &[u8],
-        list: &mut [Place],
-    ) -> Result<Step, Refusal>
-        requires closed { self.old.opened ≡ false }
-        requires long { 64 ≤ length list.old }
-        ensures opens { done (told result []) (meaning S.ReadStore self.new) ≡ open_call (meaning S.ReadStore self.old) shares text.now (length list.old) }
-    {
-        admitted(&self.store, &shares)?;
-        self.configure(shares, text, list)
-    }
-
-    // Opens a closed reader, which then stands.
-    fn open_lawfully(
         &mut self,
         shares: Shares,
         text: &[u8],
@@ -95,7 +80,8 @@ impl<S: WriteStore> Reader<S> {
         ensures refused { (e : Refusal) → result ≡ Err e → meaning S.ReadStore self.new ≡ meaning S.ReadStore self.old }
     {
         law_of_opening();
-        self.open_store(shares, text, list)
+        admitted(&self.store, &shares)?;
+        self.configure(shares, text, list)
     }
 
     // Opens the reader over its store, with the shares of configuration, terminal and card, and the configuration.
@@ -111,6 +97,6 @@ impl<S: WriteStore> Reader<S> {
         if list.len() < 64 {
             return Err(Refusal::Short);
         }
-        self.open_lawfully(shares, text, list)
+        self.open_store(shares, text, list)
     }
 }
