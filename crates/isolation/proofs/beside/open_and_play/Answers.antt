@@ -1,6 +1,5 @@
-use Rattle.std.proofs.Common.{◌≡◌, [], length, take, drop, Ok, Err, sym, refl, ap, ◌∙◌, subst, arith, rules}
+use Rattle.std.proofs.Common.{◌≡◌, [], length, take, drop, Ok, sym, ap, ◌∙◌, subst, arith, rules}
 use Rattle.std.proofs.lemmas.List.{length-take-le}
-use Rattle.std.proofs.lemmas.Result.{err_from_is_err_and}
 use Rattle.run.specs.Calls.{configured}
 use Rattle.reader.specs.Meanings.{meaning, told}
 use Rattle.isolation.specs.Asked.{asks, latest}
@@ -28,9 +27,3 @@ returns g c =
       );
       rest = subst (λ k. drop k after ≡ drop k c.args.replies.now) made p.rest;
     }
-
-pub returns-in_err-open : goal.returns-in_err-open
-returns-in_err-open g c =
-    let o = c.in_err-open.ensures in
-    let p = err_from_is_err_and c.from_residual.result c.from_residual.ensures.1 in
-    record { came = rw (p.1, p.2) (sym (ap (λ d. d.reply) o.opens), o.refused _ refl); rest = refl }

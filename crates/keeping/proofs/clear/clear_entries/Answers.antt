@@ -1,19 +1,9 @@
-use Rattle.std.proofs.Common.{◌+◌, drop, sym, ap, ◌∙◌}
+use Rattle.std.proofs.Common.{sym, ap, ◌∙◌}
 use Rattle.std.proofs.lemmas.List.{at_drop_all}
 use Rattle.keeping.specs.Steps.{cleared_all}
-use Rattle.keeping.proofs.Clearings.{cleared_more, all_cleared}
+use Rattle.keeping.proofs.Clearings.{all_cleared}
 use Rattle.keeping.proofs.Rooms.{roomy_cleared}
 use Rattle.keeping.proofs.clear.clear_entries.Goals as goal
-
-pub loop-entry-preserved : goal.loop-entry-preserved
-loop-entry-preserved g c =
-    let inv = c.loop-entry.invariant in
-    let es = c.args.entries.now in
-    let i = c.loop-entry.entry-index in (
-      ap (cleared_all (drop (i + 1) es)) c.clear_entry.ensures.after ∙ sym (cleared_more es i _ c.loop-entry-test.true (g.S.ReadStore.held c.loop-entry.store)) ∙ inv.0,
-      c.clear_entry.ensures.limits.0 ∙ inv.1,
-      c.clear_entry.ensures.limits.1 ∙ inv.2,
-    )
 
 pub returns : goal.returns
 returns g c =

@@ -1,13 +1,9 @@
-use Rattle.std.proofs.Common.{◌+◌, get_or, drop, sym, refl, ap, ◌∙◌, subst}
-use Rattle.std.proofs.lemmas.List.{at_drop_all}
+use Rattle.std.proofs.Common.{◌+◌, get_or, drop, sym, ap, ◌∙◌, subst}
 use Rattle.store.specs.Map.{Map}
 use Rattle.keeping.specs.Keeping.{stored, stored_one}
 use Rattle.keeping.specs.Steps.{Fresh}
 use Rattle.keeping.proofs.Keepings.{blank, stored_more, fresh_more, holds_so_far}
 use Rattle.keeping.proofs.keep.put_places.Goals as goal
-
-pub loop-place-init : goal.loop-place-init
-loop-place-init g c = ((λ p. (refl, p.fresh)), refl, refl)
 
 pub loop-place-preserved : goal.loop-place-preserved
 loop-place-preserved g c =
@@ -26,11 +22,3 @@ loop-place-preserved g c =
       c.put_one.ensures.limits.0 ∙ inv.1,
       c.put_one.ensures.limits.1 ∙ inv.2,
     )
-
-pub returns : goal.returns
-returns g c =
-    let inv = c.loop-place.invariant in
-    record {
-      after = λ p. sym (at_drop_all (λ qs. stored c.args.text.now qs (g.S.ReadStore.held c.loop-place.store)) c.args.places.now c.loop-place.place-index c.loop-place-test.false) ∙ (inv.0 p).0;
-      limits = (inv.1, inv.2);
-    }

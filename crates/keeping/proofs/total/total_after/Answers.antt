@@ -3,7 +3,6 @@ use Rattle.std.proofs.lemmas.List.{at_drop_all}
 use Rattle.dictionary.proofs.Order.{entry_at}
 use Rattle.keeping.specs.Keeping.{stored}
 use Rattle.keeping.specs.Shares.{parts_of, writer_total}
-use Rattle.keeping.proofs.Sharing.{parts_turn}
 use Rattle.keeping.proofs.total.total_after.Goals as goal
 
 pub part_after-total-requires : goal.part_after-total-requires
@@ -12,15 +11,6 @@ part_after-total-requires g c =
       fits = c.requires;
       listed = simp c.all-table.ensures.value (entry_at c.loop-entry.entry-index _ _ (omega (arith, c.all-table.ensures.len, ap length c.all-table.ensures.value)) refl);
     }
-
-pub loop-entry-preserved : goal.loop-entry-preserved
-loop-entry-preserved g c =
-    let inv = c.loop-entry.invariant in
-    let M = stored c.args.text.now c.args.places.now (g.S.ReadStore.held c.args.store.now) in (
-      parts_turn c.args.kind c.all-table.result.now c.loop-entry.entry-index _ c.loop-entry-test.true M c.loop-entry.total c.part_after-total.result _
-          c.part_after-total.ensures.value inv.0,
-      omega (arith, inv.1, c.part_after-total.ensures.small),
-    )
 
 pub returns : goal.returns
 unfolding writer_total

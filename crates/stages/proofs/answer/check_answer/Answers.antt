@@ -1,6 +1,5 @@
-use Rattle.std.proofs.Common.{sym, ap, ◌∙◌}
+use Rattle.std.proofs.Common.{ap, ◌∙◌}
 use Rattle.std.proofs.lemmas.Result.{err_from_is_err_and}
-use Rattle.std.specs.Result.{result_err}
 use Rattle.run.specs.Run.{unless, bad_status, text_of, answer_text, answered}
 use Rattle.stages.proofs.answer.check_answer.Goals as goal
 

@@ -1,8 +1,5 @@
-use Rattle.std.proofs.Common.{length, Ok, Err, ap, ◌∙◌}
+use Rattle.std.proofs.Common.{length, Ok, Err}
 use Rattle.std.proofs.lemmas.Result.{err_from_is_err_and}
-use Rattle.stages.specs.Courses.{text_course}
-use Rattle.keeping.specs.Keeping.{stored_text}
-use Rattle.store.specs.Map.{empty}
 use Rattle.stages.proofs.Cards.{one_taken}
 use Rattle.stages.proofs.card.take_object.Goals as goal
 

@@ -1,5 +1,5 @@
-use Rattle.std.proofs.Common.{◌≡◌, ◌+◌, ◌-◌, ◌<◌, ◌≤◌, take, drop, sym, ap, ◌∙◌, arith, rules}
-use Rattle.std.proofs.lemmas.List.{drop-take, drop_all, length-take}
+use Rattle.std.proofs.Common.{◌≡◌, ◌+◌, ◌-◌, ◌<◌, take, drop, sym, ap, ◌∙◌, arith, rules}
+use Rattle.std.proofs.lemmas.List.{drop-take}
 use Rattle.reader.proofs.reader.answer.left_behind.Goals as goal
 
 pub returns-then-at-len : goal.returns-then-at-len
@@ -8,9 +8,3 @@ returns-then-at-len c =
     let more : n < c.args.len = search rules in
     let all : n + (c.args.len - n) ≡ c.args.len = omega arith in
     sym (drop-take n (c.args.len - n) c.args.records.now) ∙ ap (λ k. drop n (take k c.args.records.now)) all
-
-pub returns : goal.returns
-returns c =
-    let none : c.args.len ≤ c.args.at + 1 = search rules in
-    let l = length-take c.args.len c.args.records.now in
-    sym (drop_all (c.args.at + 1) (take c.args.len c.args.records.now) (omega arith))
