@@ -1,23 +1,14 @@
 -- One call more.
-use Rattle.std.proofs.Common.{◌≡◌, ℕ, ◌+◌, ◌<◌, ◌≤◌, List, [], ◌∷◌, ◌++◌, length, get_or, take, IfOk, Ok, Err, Result, refl, ap, ◌∙◌, ap₂}
-use Rattle.std.proofs.lemmas.List.{take_more, length-take-le}
+use Rattle.std.proofs.Common.{◌≡◌, ℕ, ◌+◌, ◌<◌, List, [], ◌∷◌, ◌++◌, length, get_or, take, Result, refl, ap, ◌∙◌, ap₂}
+use Rattle.std.proofs.lemmas.List.{take_more}
 use Rattle.run.specs.declared.refusal.Refusal.{Refusal}
 use Rattle.run.specs.State.{Meaning}
 use Rattle.run.specs.Calls.{Call, Reply, Config}
 use Rattle.run.specs.History.{History, turn, calls}
 use Rattle.run.specs.Law.{Stands}
 use Rattle.reader.specs.declared.reader.Step.{Step}
-use Rattle.reader.specs.declared.reader.Step.TheVariants.{Taken, Command, Ended}
-use Rattle.reader.specs.Meanings.{told, step_length}
 use Rattle.isolation.specs.Asked.{latest}
 use Rattle.isolation.specs.Beside.{handed_back, replies, Answered, Went}
-
--- what is told is handed back
-pub told_back : (r : Result Step Refusal) (b : List ℕ) → IfOk r (λ s. step_length s ≤ length b) → handed_back (told r b) ≡ r
-told_back (Err e) b h = refl
-told_back (Ok Taken) b h = refl
-told_back (Ok (Command n)) b h = ap (λ k. Ok (Command k)) (length-take-le n b h)
-told_back (Ok Ended) b h = refl
 
 -- one more, the latest
 module _ {A B : Type 0} (f : A → B) where

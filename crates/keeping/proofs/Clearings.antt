@@ -1,7 +1,6 @@
 -- Clearing entry by entry leaves what the definition says. Assumes nothing.
-use Rattle.std.proofs.Common.{◌≡◌, ℕ, ◌+◌, ◌<◌, true, eqb, ltb, List, [], ◌∷◌, length, get_or, drop, Some, None, sym, refl, ap, ◌∙◌, ⊎_elim, arith}
+use Rattle.std.proofs.Common.{◌≡◌, ℕ, true, eqb, ltb, List, [], ◌∷◌, Some, None, sym, refl, ap, ◌∙◌, ⊎_elim, arith}
 use mathlib.Core.Path.{fun_ext}
-use Rattle.std.proofs.lemmas.List.{at_drop_more}
 use Rattle.std.proofs.lemmas.Bool.{cases_Bool, eqb-true, eqb-false, cond-true, cond-false, and_parts}
 use Rattle.dictionary.specs.declared.entry.Entry.{Entry}
 use Rattle.dictionary.specs.declared.entry.Writer.{Writer}
@@ -49,6 +48,3 @@ all_at b (e ∷ es) r m t =
 pub all_cleared : (m : Map) → cleared_all dictionary m ≡ cleared m
 unfolding entry_of
 all_cleared m = fun_ext (λ t. all_at 0 dictionary dictionary_rises m t)
-
-pub cleared_more : (es : List Entry) (i : ℕ) (d : Entry) → i < length es → (m : Map) → cleared_all (drop i es) m ≡ cleared_all (drop (i + 1) es) (cleared_one m (get_or es i d))
-cleared_more es i d h m = at_drop_more (λ xs. cleared_all xs m) es i d h

@@ -1,5 +1,5 @@
 -- Storing the objects of a text one after the other. Assumes nothing.
-use Rattle.std.proofs.Common.{◌≡◌, ℕ, ◌+◌, ◌<◌, ◌≤◌, List, [], ◌∷◌, length, get_or, drop, Some, None, Ok, Option, Result, sym, refl, ap, ◌∙◌, subst, arith}
+use Rattle.std.proofs.Common.{◌≡◌, ℕ, ◌+◌, ◌<◌, ◌≤◌, List, [], ◌∷◌, length, get_or, drop, Some, None, Ok, Option, refl, ap, ◌∙◌, subst, arith}
 use Rattle.std.proofs.lemmas.List.{at_drop_more, drop_more}
 use Rattle.std.proofs.lemmas.Bool.{cond-false, le-ltb, or_from}
 use Rattle.dictionary.specs.declared.entry.Entry.{Entry}
@@ -9,9 +9,8 @@ use Rattle.tlv.specs.declared.place.Place.{Place}
 use Rattle.tlv.specs.Values.{value_at}
 use Rattle.store.specs.Map.{Map, changed, one, size, count, total}
 use Rattle.store.specs.Maps.{count_changed, total_changed}
-use Rattle.store.specs.declared.writing.Refused.{Refused}
-use Rattle.store.specs.Answer.{passes, put_answer, put_after}
-use Rattle.keeping.specs.Keeping.{stored_by, stored_one, stored, removed_one, removed}
+use Rattle.store.specs.Answer.{passes, put_answer}
+use Rattle.keeping.specs.Keeping.{stored_by, stored_one, stored}
 use Rattle.keeping.specs.Steps.{FreshBy, Fresh, Holds}
 
 -- what the checker reads past the end of a list of places
@@ -52,10 +51,6 @@ module _ (text : List ℕ) (ps : List Place) (i : ℕ) (d : Place) (h : i < leng
   pub fresh_more : Fresh text (drop i ps) m → FreshBy text m (get_or ps i d) (entry_of (get_or ps i d).tag) × Fresh text (drop (i + 1) ps) (stored_one text m (get_or ps i d))
   fresh_more f = let P : List Place → Type 0 = λ qs. Fresh text qs m in subst P (drop_more ps i d h) f
 
-module _ (ps : List Place) (i : ℕ) (d : Place) (h : i < length ps) (m : Map) where
-  pub removed_more : removed (drop i ps) m ≡ removed (drop (i + 1) ps) (removed_one m (get_or ps i d))
-  removed_more = at_drop_more (λ qs. removed qs m) ps i d h
-
 -- the limits hold the objects put so far, since they hold them all
 pub holds_so_far : (text : List ℕ) (ps : List Place) (m n : Map) (o o' b b' : ℕ) → Fresh text ps m → stored text ps m ≡ n → Holds o b n → o' ≡ o → b' ≡ b → Holds o' b' m
 holds_so_far text ps m n o o' b b' f e h p q =
@@ -63,19 +58,3 @@ holds_so_far text ps m n o o' b b' f e h p q =
     let c = ap count e in
     let d = ap total e in
     record { few = omega (arith, a.0, h.few); small = omega (arith, a.1, h.small) }
-
--- a put that is not refused is no error
-pub not_refused : (o b : ℕ) (m : Map) (p : Place) (text v : List ℕ) (t : ℕ) (e : Entry) → entry_of p.tag ≡ Some e → t ≡ p.tag → v ≡ value_at text p
-    → FreshBy text m p (entry_of p.tag) → Holds o b (stored_one text m p) → put_answer o b m t v ≡ Ok tt
-not_refused o b m p text v t e known same is f h =
-    let F : Option Entry → Type 0 = λ x. FreshBy text m p x in
-    let H : Option Entry → Type 0 = λ x. Holds o b (stored_by text m p x) in
-    ap (λ u. put_answer o b m u v) same ∙ ap (λ u. put_answer o b m p.tag u) is
-    ∙ put_taken o b m p.tag (value_at text p) (subst F known f).1 (subst H known h)
-
-pub put_stored : (o b : ℕ) (m n : Map) (p : Place) (text v : List ℕ) (t : ℕ) (e : Entry) (r : Result (Unit {0}) Refused) → entry_of p.tag ≡ Some e → t ≡ p.tag → v ≡ value_at text p
-    → r ≡ put_answer o b m t v → n ≡ put_after r m t v
-    → FreshBy text m p (entry_of p.tag) → Holds o b (stored_one text m p) → n ≡ stored_one text m p
-put_stored o b m n p text v t e r known same is answer after f h =
-    after ∙ ap (λ x. put_after x m t v) (answer ∙ not_refused o b m p text v t e known same is f h)
-    ∙ ap (λ u. changed m u (Some v)) same ∙ ap (λ u. changed m p.tag (Some u)) is ∙ sym (ap (stored_by text m p) known)

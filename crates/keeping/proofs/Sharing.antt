@@ -11,21 +11,12 @@ use Rattle.store.specs.Map.{Map, size}
 use Rattle.judge.specs.declared.kind.TextKind.{TextKind}
 use Rattle.judge.specs.Accepted.{AllFit}
 use Rattle.keeping.specs.Keeping.{stored_one, stored, removed}
-use Rattle.keeping.specs.Shares.{part_of, parts_of}
 use Rattle.keeping.specs.Steps.{FreshBy, Fresh, length_after}
 use Rattle.keeping.proofs.Refills.{last_by, last_of, stored_at, fresh_removed}
 
 module _ (text : List ℕ) (ps : List Place) (i : ℕ) (d : Place) (h : i < length ps) (t n : ℕ) where
   step : length_after text (drop i ps) t n ≡ length_after text (drop (i + 1) ps) t (cond (eqb (get_or ps i d).tag t) (length (value_at text (get_or ps i d))) n)
   step = at_drop_more (λ qs. length_after text qs t n) ps i d h
-
-  pub length_here : (k : ℕ) → (get_or ps i d).tag ≡ t → k ≡ length (value_at text (get_or ps i d)) → length_after text (drop (i + 1) ps) t k ≡ length_after text (drop i ps) t n
-  length_here k e f =
-      ap (length_after text (drop (i + 1) ps) t) (f ∙ sym (cond-true (eqb (get_or ps i d).tag t) (length (value_at text (get_or ps i d))) n (eq-eqb (get_or ps i d).tag t e))) ∙ sym step
-
-  pub length_other : (k : ℕ) → ((get_or ps i d).tag ≡ t → ⊥) → k ≡ n → length_after text (drop (i + 1) ps) t k ≡ length_after text (drop i ps) t n
-  length_other k ne f =
-      ap (length_after text (drop (i + 1) ps) t) (f ∙ sym (cond-false (eqb (get_or ps i d).tag t) (length (value_at text (get_or ps i d))) n (ne_eqb (get_or ps i d).tag t ne))) ∙ sym step
 
 pub passes_by : (text : List ℕ) (p : Place) (t : ℕ) (o : Option (List ℕ)) (x : Option Entry) → eqb p.tag t ≡ false → last_by text p t o x ≡ o
 passes_by text p t o None e = refl
@@ -88,10 +79,3 @@ after k m text ps t n held e known a v h r =
     let last : n ≡ size (last_of text ps t (m t)) = r ∙ ap (length_after text ps t) h ∙ size_after text ps t e (m t) known in
     let s = short_after text ps t e (m t) known (fresh_short text ps (removed ps m) (fresh_removed k m text ps a)) (small_of (m t) v) in
     record { value = last ∙ ap size (sym (stored_at text ps m t)); small = omega arith }
-
-pub parts_more : (k : TextKind) (es : List Entry) (i : ℕ) (d : Entry) → i < length es → (m : Map) → parts_of k (drop i es) m ≡ part_of k m (get_or es i d) + parts_of k (drop (i + 1) es) m
-parts_more k es i d h m = at_drop_more (λ xs. parts_of k xs m) es i d h
-
-pub parts_turn : (k : TextKind) (es : List Entry) (i : ℕ) (d : Entry) → i < length es → (m : Map) (total n all : ℕ) → n ≡ part_of k m (get_or es i d)
-    → total + parts_of k (drop i es) m ≡ all → total + n + parts_of k (drop (i + 1) es) m ≡ all
-parts_turn k es i d h m total n all e inv = let s = parts_more k es i d h m in omega arith

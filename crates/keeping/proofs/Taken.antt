@@ -1,20 +1,16 @@
 -- What holds of a text that is taken, and that taking keeps the room. Assumes nothing.
 use Rattle.std.proofs.Common.{◌≡◌, ℕ, ◌≤◌, Bool, true, false, cond, ltb, List, Ok, Err, Result, refl, arith}
 use Rattle.std.proofs.lemmas.Bool.{ltb-false}
-use Rattle.tlv.specs.Series.{Reading, wrong, found, most_objects, meaning}
+use Rattle.tlv.specs.Series.{most_objects}
 use Rattle.store.specs.Map.{Map}
 use Rattle.judge.specs.declared.fault.ObjectFault.{ObjectFault}
 use Rattle.judge.specs.declared.kind.TextKind.{TextKind}
 use Rattle.judge.specs.Judge.{judged}
-use Rattle.judge.proofs.Fitting.{accepted_fits}
 use Rattle.keeping.specs.declared.shares.Shares.{Shares}
-use Rattle.keeping.specs.declared.refusal.TakeRefusal.{TakeRefusal}
 use Rattle.keeping.specs.declared.refusal.TakeRefusal.TheVariants.{ListShort, Share}
-use Rattle.keeping.specs.Keeping.{stored, places_read, stored_text}
+use Rattle.keeping.specs.Keeping.{stored_text}
 use Rattle.keeping.specs.Shares.{writer_total, share_of}
-use Rattle.keeping.specs.Room.{Roomy}
-use Rattle.keeping.specs.Taking.{on_judged, take_answer, take_after}
-use Rattle.keeping.proofs.Kept.{roomy_stored}
+use Rattle.keeping.specs.Taking.{on_judged, take_answer}
 
 -- a text that is taken was accepted, and its writer keeps its share
 pub record Passed (s : Shares) (k : TextKind) (room : ℕ) (m : Map) (text : List ℕ) : Type 0 where
@@ -33,15 +29,3 @@ module _ (s : Shares) (k : TextKind) (room : ℕ) (m : Map) (text : List ℕ) wh
   passed h =
       let q = tests (ltb room most_objects) (judged k m text) (ltb (share_of s k) (writer_total k (stored_text text m))) h in
       record { list = ltb-false room most_objects q.0; accepted = q.1; share = ltb-false (share_of s k) (writer_total k (stored_text text m)) q.2 }
-
-  -- taking or refusing a text keeps the room
-  pub roomy_taken : (o b : ℕ) → Roomy s o b m → Roomy s o b (take_after (take_answer s k room m text) text m)
-  roomy_taken o b r = by (take_answer s k room m text) refl
-    where
-      read : (x : Reading) → meaning text ≡ x → judged k m text ≡ Ok tt → writer_total k (stored text (places_read x) m) ≤ share_of s k → Roomy s o b (stored text (places_read x) m)
-      read (wrong w at) is j l = r
-      read (found ps) is j l = roomy_stored s o b k m text ps (accepted_fits k m text ps is j) l r
-
-      by : (x : Result (Unit {0}) TakeRefusal) → take_answer s k room m text ≡ x → Roomy s o b (take_after x text m)
-      by (Err e) is = r
-      by (Ok u) is = let p = passed is in read (meaning text) refl p.accepted p.share

@@ -6,10 +6,9 @@ use Rattle.store.specs.Map.{Map}
 use Rattle.commands.specs.declared.instruction.CommandFault.{CommandFault}
 use Rattle.commands.specs.declared.instruction.CommandFault.TheVariants.{ShortBuffer}
 use Rattle.commands.specs.Building.{roomy, told, written}
-use Rattle.decision.specs.declared.cryptogram.Cryptogram.{Cryptogram}
 use Rattle.run.specs.Numbers.{list_cause}
-use Rattle.run.specs.State.{Phase, awaits_options, awaits_cryptogram}
-use Rattle.run.specs.Run.{Course, hands_out, fails, options_with, generates}
+use Rattle.run.specs.State.{Phase, awaits_options}
+use Rattle.run.specs.Run.{Course, hands_out, fails, options_with}
 use Rattle.stages.proofs.Cards.{not_error}
 
 abbrev pub command_course : Phase → Map → Result (List ℕ) CommandFault → Course
@@ -19,10 +18,6 @@ command_course phase held (Ok bs) = hands_out bs phase held
 pub options_course_lem : (held : Map) (x : Result (List ℕ) CommandFault) → command_course awaits_options held x ≡ options_with held x
 options_course_lem held (Err e) = refl
 options_course_lem held (Ok bs) = refl
-
-pub cryptogram_course_lem : (c : Cryptogram) (held : Map) (x : Result (List ℕ) CommandFault) → command_course (awaits_cryptogram c) held x ≡ generates c held x
-cryptogram_course_lem c held (Err e) = refl
-cryptogram_course_lem c held (Ok bs) = refl
 
 number_of : Result ℕ CommandFault → ℕ
 number_of (Ok n) = n
