@@ -1,25 +1,34 @@
-#!/usr/bin/env python3
-# lists declarations of proofs/*.antt (lemma files) that nothing names, over all crates
 import os,re,sys
-root=sys.argv[1]; only=sys.argv[2:] 
-texts={}
-for d,_,fs in os.walk(root):
-    if '/out' in d: continue
+from collections import defaultdict
+root=sys.argv[1]
+files={}
+for d,dirs,fs in os.walk(root+'/crates'):
+    if d.endswith('/out'): dirs[:]=[]; continue
     for f in fs:
         if f.endswith('.antt') or f.endswith('.rt'):
-            p=os.path.join(d,f); texts[p]=open(p).read()
-toks={p:{} for p in texts}
-from collections import Counter
-cnt=Counter()
-per={}
-for p,t in texts.items():
-    c=Counter(re.findall(r"[^\s(){}.,;:λ\[\]`]+",t)); per[p]=c; cnt.update(c)
-for p,t in sorted(texts.items()):
-    m=re.match(r'.*/crates/([^/]+)/proofs/([^/]+\.antt)$',p)
-    if not m or (only and m.group(1) not in only): continue
-    for mm in re.finditer(r"^( *)(?:unfoldable |abbrev )?(?:pub )?(?:unfoldable |abbrev )?([^\s:(){}]+) :(?: |$)",t,re.M):
-        n=mm.group(2)
-        if n in ('use','module','data','record'): continue
-        # own lines: equations
-        own=len(re.findall(r"^ *(?:pub )?(?:abbrev )?(?:pub )?%s(?= |$)"%re.escape(n),t,re.M))
-        if cnt[n]<=own: print(m.group(1)+'/'+m.group(2),n)
+            p=os.path.join(d,f); files[p]=open(p).read()
+tok=lambda t: set(re.findall(r"[^\s(){}.,;:λ\[\]`]+",t))
+decl=defaultdict(list); roots=set()
+def strip_use(t): return '\n'.join(l for l in t.split('\n') if not re.match(r'^ *(pub |ghost )?use ',l) and not l.strip().startswith('--'))
+for p,t in files.items():
+    m=re.match(r'.*/crates/([^/]+)/proofs/([^/]+)\.antt$',p)
+    if m and m.group(2)!='Lib':
+        body=strip_use(t)
+        parts=re.split(r"(?m)^(?= {0,4}(?:(?:pub|abbrev|unfoldable|data|record) )*[^\s:(){}|]+(?: \([^\n]*?\))* :(?: |$))",body)
+        for q in parts:
+            mm=re.match(r" *(?:(?:pub|abbrev|unfoldable|data|record) )*([^\s:(){}]+)",q)
+            if mm and ' :' in q.split('\n')[0]: decl[mm.group(1)].append((m.group(1)+'/'+m.group(2),tok(q)))
+            else: roots|=tok(q)
+    else:
+        roots|=tok(strip_use(t)) if p.endswith('.antt') else tok(t)
+reach=set(); stack=[n for n in decl if n in roots]
+while stack:
+    n=stack.pop()
+    if n in reach: continue
+    reach.add(n)
+    for f,tk in decl[n]:
+        for k in tk:
+            if k in decl and k not in reach: stack.append(k)
+for n in sorted(decl):
+    if n not in reach:
+        for f,_ in decl[n]: print(f,n)
