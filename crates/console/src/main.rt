@@ -203,6 +203,7 @@ impl Console {
                 self.rt.println(not_understood_line(heap, self.count)?)?;
                 continue;
             };
+            // Each line brings what its call needs, so a table of functions is no plainer than this `match`.
             let reply = match line {
                 Line::Blank => continue,
                 Line::Store(make) => return Ok(Some(make)),

@@ -9,7 +9,7 @@ use run::refusal::Refusal;
 use store::writing::WriteStore;
 use tlv::place::Place;
 
-// A call, with the bytes that it brings.
+// A call, with the bytes that it brings. A value and not a closure: the law speaks of lists of calls and of what each brings.
 #[derive(Clone, Copy, PartialEq, Eq, Debug)]
 pub enum Call<'a> {
     Write(&'a [u8]),

@@ -208,7 +208,7 @@ pub fn read_line(
     }
 }
 
-// The fault of a text or of an object that a run's fault carries.
+// The fault of a text or of an object that a run's fault carries. A `match`, as below: a closure under `map` cannot allocate.
 fn carried_words(heap: Global, carried: Option<ObjectFault>) -> Result<String, AllocError>
     ensures { IfOk result (λ s. string_bytes s ≡ carried_words carried) }
 {

@@ -43,7 +43,7 @@ pub fn first_missing<S: ReadStore>(store: &S, tags: &[u32]) -> Option<u32>
     tags.iter().copied().find(|tag| !is_held(store, *tag))
 }
 
-// A tag that has no value is a cause.
+// A tag that has no value is a cause. A `match`, since the value there is the error.
 pub(crate) fn none_missing(tag: Option<u32>) -> Result<(), Cause>
     ensures { result_err result ≡ missing tag }
 {

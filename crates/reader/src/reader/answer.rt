@@ -176,7 +176,8 @@ impl<S: WriteStore> Reader<S> {
         self.go_end(next);
     }
 
-    // Goes where the text of an answer leads, by what was awaited; where nothing was, the run ends.
+    // Goes where the text of an answer leads, by what was awaited; where nothing was, the run ends. By the phase and not by
+    // a stored step: the phase is what is told of a reader, and brings what the step needs.
     fn run_text(&mut self, text: &[u8], buffer: &mut [u8], list: &mut [Place]) -> Step
         requires wide { 261 ≤ length buffer.old }
         requires long { 64 ≤ length list.old }
