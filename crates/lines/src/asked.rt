@@ -45,7 +45,8 @@ pub fn of_two(heap: Global, name: &str, word: &str) -> Result<Option<Line>, Allo
     }
 }
 
-// A line of three words.
+// A line of three words. A word is read once those before it are understood, by `let .. else`: an `Option` inside a `Result`
+// that allocates has no `?` of its own.
 pub fn of_three(
     heap: Global,
     name: &str,
@@ -55,11 +56,12 @@ pub fn of_three(
     ensures { IfOk result (λ o. IfSome o (Asks (name.now ∷ first.now ∷ second.now ∷ []))) }
 {
     match name {
-        "put" => Ok(
-            tag_of(heap, first)?
-                .zip(bytes_of(heap, second)?)
-                .map(|(tag, value)| Line::Put(tag, value)),
-        ),
+        "put" => {
+            let Some(tag) = tag_of(heap, first)? else {
+                return Ok(None);
+            };
+            Ok(bytes_of(heap, second)?.map(|value| Line::Put(tag, value)))
+        }
         "copy" => Ok(
             tag_of(heap, first)?
                 .zip(number(second))
@@ -75,16 +77,18 @@ pub fn of_three(
                 .zip(number(second))
                 .map(|(dol, most)| Line::Dol(dol, most)),
         ),
-        "tvr" if is_decimal(first) && is_decimal(second) => Ok(
-            exactly(heap, first, 6)?
-                .zip(exactly(heap, second, 6)?)
-                .map(|(amount, floor)| Line::Verify(amount, floor)),
-        ),
-        "given" => Ok(
-            kind_of(first)
-                .zip(byte_of(heap, second)?)
-                .map(|(kind, byte)| Line::Given(kind, byte)),
-        ),
+        "tvr" if is_decimal(first) && is_decimal(second) => {
+            let Some(amount) = exactly(heap, first, 6)? else {
+                return Ok(None);
+            };
+            Ok(exactly(heap, second, 6)?.map(|floor| Line::Verify(amount, floor)))
+        }
+        "given" => {
+            let Some(kind) = kind_of(first) else {
+                return Ok(None);
+            };
+            Ok(byte_of(heap, second)?.map(|byte| Line::Given(kind, byte)))
+        }
         _ => Ok(None),
     }
 }
@@ -145,7 +149,7 @@ fn shares_of(configuration: &str, terminal: &str, card: &str) -> Option<Shares>
     })
 }
 
-// A line of five words.
+// A line of five words, each read once those before it are understood.
 pub fn of_five(
     heap: Global,
     name: &str,
@@ -158,20 +162,25 @@ pub fn of_five(
 {
     match name {
         "store" => Ok(masked_of(first, second, third, fourth).map(Line::Store)),
-        "open" => Ok(
-            shares_of(first, second, third)
-                .zip(bytes_of(heap, fourth)?)
-                .map(|(shares, text)| Line::Open(shares, text)),
-        ),
+        "open" => {
+            let Some(shares) = shares_of(first, second, third) else {
+                return Ok(None);
+            };
+            Ok(bytes_of(heap, fourth)?.map(|text| Line::Open(shares, text)))
+        }
         // TVR, TAC Denial, TAC Online and Terminal Type.
-        "decide" => Ok(
-            exactly(heap, first, 5)?
-                .zip(exactly(heap, second, 5)?)
-                .zip(exactly(heap, third, 5)?.zip(byte_of(heap, fourth)?))
-                .map(|((tvr, denial), (online, terminal))| {
-                    Line::Decide(tvr, denial, online, terminal)
-                }),
-        ),
+        "decide" => {
+            let Some(tvr) = exactly(heap, first, 5)? else {
+                return Ok(None);
+            };
+            let Some(denial) = exactly(heap, second, 5)? else {
+                return Ok(None);
+            };
+            let Some(online) = exactly(heap, third, 5)? else {
+                return Ok(None);
+            };
+            Ok(byte_of(heap, fourth)?.map(|terminal| Line::Decide(tvr, denial, online, terminal)))
+        }
         _ => Ok(None),
     }
 }
