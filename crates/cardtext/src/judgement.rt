@@ -1,9 +1,10 @@
 // What is printed by the dictionary: an object's name and writer, and how a text would be taken.
-ghost use Rattle.std.specs.Prelude.{◌≡◌, ◌++◌, length, OnOk};
+ghost use Rattle.std.specs.Prelude.{◌≡◌, ◌++◌, length, IfOk, OnOk, codes, decimal, string_bytes};
 ghost use Rattle.cardtext.specs.Report.{object_fault, taking_line, verdict, with_takings};
 ghost use Rattle.cardtext.specs.Words.{words_of, with_entry};
 ghost use Rattle.dictionary.specs.Dictionary.{entry_of};
 ghost use Rattle.dictionary.specs.Names.{name_of};
+ghost use Rattle.judge.specs.Faults.{fault_number};
 ghost use Rattle.judge.specs.Judge.{answered};
 
 use crate::report::push_tag;
@@ -13,7 +14,7 @@ use dictionary::name::name_of;
 use judge::alone::judge_alone;
 use judge::fault::{JudgeRefusal, ObjectFault, ObjectFaultKind};
 use judge::kind::TextKind;
-use std::alloc::AllocError;
+use std::alloc::{AllocError, Global};
 use tlv::place::Place;
 
 // The words for a writer. A `match`, since `Display` cannot be written here for a type of another crate.
@@ -41,6 +42,15 @@ pub fn push_entry(out: &mut Vec<u8>, tag: u32) -> Result<(), AllocError>
     out.extend_from_slice(words_of(entry.writer).as_bytes())
 }
 
+// The words of an object's fault, up to its tag. They fit into the room that is asked for, so that it is asked for once.
+fn fault_words(heap: Global, kind: ObjectFaultKind, at: usize) -> Result<String, AllocError>
+    ensures { IfOk result (λ s. string_bytes s ≡ codes "object fault " ++ (decimal (fault_number kind) ++ (codes " place " ++ (decimal at ++ codes " tag ")))) }
+{
+    let mut words = String::with_capacity(heap, 64)?;
+    write!(words, "object fault {} place {at} tag ", u8::from(kind))?;
+    Ok(words)
+}
+
 // The fault of an object.
 fn push_object_fault(
     out: &mut Vec<u8>,
@@ -50,7 +60,7 @@ fn push_object_fault(
 ) -> Result<(), AllocError>
     ensures { OnOk result (out.new.items ≡ out.old.items ++ object_fault kind at tag) }
 {
-    let words = format!(in *out.allocator(); "object fault {} place {at} tag ", u8::from(kind))?;
+    let words = fault_words(*out.allocator(), kind, at)?;
     out.extend_from_slice(words.as_bytes())?;
     push_tag(out, tag)
 }

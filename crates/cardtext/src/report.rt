@@ -63,7 +63,8 @@ fn push_objects(out: &mut Vec<u8>, text: &[u8], places: &[Place]) -> Result<(), 
     ensures { OnOk result (out.new.items ≡ out.old.items ++ (object_lines text.now places.now ++ count_line (length places.now))) }
 {
     push_each(out, text, places)?;
-    let count = format!(in *out.allocator(); "ok {}\n", places.len())?;
+    let mut count = String::with_capacity(*out.allocator(), 32)?;
+    write!(count, "ok {}\n", places.len())?;
     out.extend_from_slice(count.as_bytes())
 }
 
@@ -71,7 +72,8 @@ fn push_objects(out: &mut Vec<u8>, text: &[u8], places: &[Place]) -> Result<(), 
 fn push_fault(out: &mut Vec<u8>, fault: TextFault) -> Result<(), AllocError>
     ensures { OnOk result (out.new.items ≡ out.old.items ++ fault_line fault.kind fault.at) }
 {
-    let line = format!(in *out.allocator(); "fault {} place {}\n", u8::from(fault.kind), fault.at)?;
+    let mut line = String::with_capacity(*out.allocator(), 48)?;
+    write!(line, "fault {} place {}\n", u8::from(fault.kind), fault.at)?;
     out.extend_from_slice(line.as_bytes())
 }
 

@@ -13,8 +13,7 @@ returns c =
     let words =
     c.in_ok-extend_from_slice.ensures.items
     ∙ ap (λ xs. out-0 ++ xs)
-    (c.as_bytes.ensures.value ∙ c.in_ok-words.ensures.ok
-    ∙ ap (λ n. codes "object fault " ++ (decimal n ++ (codes " place " ++ (place ++ codes " tag ")))) c.from.ensures) in
+    (c.as_bytes.ensures.value ∙ c.in_ok-words.ensures) in
     IfOk-weaker c.push_tag.result _ _
     (λ x e. fifth out-0 (codes "object fault ") (decimal (fault_number c.args.kind)) (codes " place ") place (codes " tag ") (tag_digits c.args.tag) words e)
     c.push_tag.ensures
