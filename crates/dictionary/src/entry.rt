@@ -1,6 +1,7 @@
 // An entry of the dictionary, and which values may be held under it.
-ghost use Rattle.std.specs.Prelude.{◌≡◌, [], ◌∷◌};
-ghost use Rattle.dictionary.specs.Checks.{fits_length, fits_format, halves, all_digits, digits_then_f};
+ghost use Rattle.std.specs.Prelude.{◌≡◌, ◌/◌, ◌%◌, ◌&&◌, ◌||◌, ◌==◌, drop, nat_lt};
+ghost use Rattle.std.specs.List.{prefix_len};
+ghost use Rattle.dictionary.specs.Checks.{fits_length, fits_format, halves, all_digits, only_f, digits_then_f};
 
 // The format of a value.
 #[derive(Clone, Copy, Debug, PartialEq, Eq)]
@@ -62,27 +63,59 @@ impl Entry {
     }
 }
 
-// The half-bytes of a byte, the high one first.
-fn halves_of(byte: &u8) -> [u8; 2]
-    ensures { result ≡ halves (byte.now ∷ []) }
+// Whether both half-bytes of a byte are decimal digits.
+fn is_two_digits(byte: u8) -> bool
+    ensures { result ≡ (nat_lt (byte / 16) 10 && nat_lt (byte % 16) 10) }
 {
-    [*byte / 16, *byte % 16]
+    byte / 16 < 10 && byte % 16 < 10
+}
+
+// Whether both half-bytes of a byte are 'F'.
+fn is_full(byte: u8) -> bool
+    ensures { result ≡ (byte / 16 == 15 && byte % 16 == 15) }
+{
+    byte / 16 == 15 && byte % 16 == 15
+}
+
+// Whether a byte ends the digits: a digit or 'F', and then 'F'.
+fn ends_digits(byte: u8) -> bool
+    ensures { result ≡ ((nat_lt (byte / 16) 10 || byte / 16 == 15) && byte % 16 == 15) }
+{
+    (byte / 16 < 10 || byte / 16 == 15) && byte % 16 == 15
 }
 
 // Whether each half-byte is a decimal digit.
 fn is_numeric(value: &[u8]) -> bool
     ensures { result ≡ all_digits (halves value.now) }
 {
-    value.iter().flat_map(halves_of).all(|half| half < 10)
+    value.iter().all(|byte| is_two_digits(*byte))
 }
 
-// Whether the half-bytes are decimal digits and then only 'F'.
+// Whether each half-byte is 'F'.
+fn is_padding(value: &[u8]) -> bool
+    ensures { result ≡ only_f (halves value.now) }
+{
+    value.iter().all(|byte| is_full(*byte))
+}
+
+// What stands behind the bytes of two digits.
+fn without_digits(value: &[u8]) -> &[u8]
+    ensures { result.now ≡ drop (prefix_len (λ b. nat_lt (b / 16) 10 && nat_lt (b % 16) 10) value.now) value.now }
+{
+    let digits = value
+        .iter()
+        .take_while(|byte| is_two_digits(**byte))
+        .count();
+    &value[digits..]
+}
+
+// Whether the half-bytes are decimal digits and then only 'F'. Byte by byte: an iterator of half-bytes took many times as
+// long.
 fn is_compressed(value: &[u8]) -> bool
     ensures { result ≡ digits_then_f (halves value.now) }
 {
-    value
-        .iter()
-        .flat_map(halves_of)
-        .skip_while(|half| *half < 10)
-        .all(|half| half == 15)
+    match without_digits(value) {
+        [first, rest @ ..] => ends_digits(*first) && is_padding(rest),
+        [] => true,
+    }
 }
