@@ -6,7 +6,8 @@ ghost use Rattle.tlv.specs.Told.{tag_told, length_told, next_told};
 use crate::fault::{FaultKind, TextFault};
 
 // What stands next in a series: its end, a primitive object with its value, or a constructed object with its inside.
-// `at` is the place of the object's first byte, and `start` that of its value's or its inside's.
+// `at` is the place of the object's first byte, and `start` that of its value's or its inside's. An enum of its own, since the
+// form of the reader is decided by it: an end, a primitive and a constructed object.
 #[derive(Clone, Copy, PartialEq, Eq, Debug)]
 pub enum Token<'a> {
     End,
@@ -60,6 +61,7 @@ fn skip_filler(text: &[u8]) -> &[u8]
 }
 
 // What stands next in a series that ends just before the place `end`, and the bytes after it.
+#[inline(always)]
 pub fn next_token(text: &[u8], end: usize) -> Result<(Token<'_>, &[u8]), TextFault>
     ensures { next_told result ≡ next_at end text.now }
 {
