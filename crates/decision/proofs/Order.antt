@@ -22,7 +22,7 @@ bytes_zeros zero v b k = b k
 bytes_zeros (suc m) v b zero = omega arith
 bytes_zeros (suc m) v b (suc k) = bytes_zeros m v b k
 
-bytes_padded : (n : ℕ) (v : List ℕ) → Bytes v → Bytes (padded n v)
+pub bytes_padded : (n : ℕ) (v : List ℕ) → Bytes v → Bytes (padded n v)
 bytes_padded n v b = bytes_zeros (n - length v) v b
 
 decimal_zeros : (m : ℕ) (v : List ℕ) → decimal (replicate m 0 ++ v) ≡ decimal v
@@ -30,11 +30,11 @@ decimal_zeros zero v = refl
 decimal_zeros (suc m) v = decimal_zeros m v
 
 -- zeros in front mean nothing
-decimal_padded : (n : ℕ) (v : List ℕ) → decimal (padded n v) ≡ decimal v
+pub decimal_padded : (n : ℕ) (v : List ℕ) → decimal (padded n v) ≡ decimal v
 decimal_padded n v = decimal_zeros (n - length v) v
 
 -- so padded numbers have the same order
-same_order : (n : ℕ) (v w : List ℕ) → ltb (decimal (padded n w)) (decimal (padded n v)) ≡ ltb (decimal w) (decimal v)
+pub same_order : (n : ℕ) (v w : List ℕ) → ltb (decimal (padded n w)) (decimal (padded n v)) ≡ ltb (decimal w) (decimal v)
 same_order n v w = ap (λ m. ltb m (decimal (padded n v))) (decimal_padded n w) ∙ ap (ltb (decimal w)) (decimal_padded n v)
 
 pub length_padded : (n : ℕ) (v : List ℕ) → length v ≤ n → length (padded n v) ≡ n

@@ -31,6 +31,7 @@ pub fn bytes_of(heap: Global, text: &[u8]) -> Result<Option<Vec<u8>>, AllocError
         if is_blank(*c) {
             continue;
         }
+        // An `Option` inside a `Result` that allocates has no `?` of its own.
         let Some(digit) = digit_of(*c) else {
             return Ok(None);
         };

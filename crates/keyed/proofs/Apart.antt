@@ -3,6 +3,7 @@ use Rattle.std.proofs.Common.{◌≡◌, ℕ, zero, suc, ◌+◌, ◌<◌, Bool,
 use Rattle.std.proofs.lemmas.List.{length_push, get_or_push, get_or_append_left}
 use Rattle.std.proofs.lemmas.Bool.{cases_lt, or_parts}
 use Rattle.std.proofs.Math.Bool.{or-true}
+use Rattle.std.specs.Cmp.{both_ways}
 use Rattle.keyed.specs.Keys.{holds, Distinct}
 
 contrary : (a b : Bool) → (a ≡ true → b ≡ true) → b ≡ false → a ≡ false
@@ -39,3 +40,12 @@ module _ {X : Type 0} (same : X → X → Bool) where
   pub holds_push : ((x : X) → same x x ≡ true) → (xs : List X) (x : X) → holds same (xs ++ x ∷ []) x ≡ true
   holds_push reflexive [] x = ap (λ b. b || false) (reflexive x)
   holds_push reflexive (y ∷ ys) x = ap (λ b. same y x || b) (holds_push reflexive ys x) ∙ or-true (same y x)
+
+  -- equal keys are held alike
+  module _ (symmetric : (x y : X) → same x y ≡ true → same y x ≡ true) (transitive : (x y z : X) → same x y ≡ true → same y z ≡ true → same x z ≡ true) where
+    pub holds_alike : (xs : List X) (x y : X) → same x y ≡ true → holds same xs x ≡ holds same xs y
+    holds_alike [] x y e = refl
+    holds_alike (z ∷ zs) x y e =
+        let alike : same z x ≡ same z y =
+        both_ways (same z x) (same z y) (λ h. transitive z x y h e) (λ h. transitive z y x h (symmetric x y e)) in
+        ap (λ b. b || holds same zs x) alike ∙ ap (λ b. same z y || b) (holds_alike zs x y e)

@@ -66,18 +66,21 @@ pub whole_none : (t : ℕ) (v : List ℕ) → is_tag t ≡ false → bytes_of (w
 whole_none t v h = ap bytes_of (cond-false (is_tag t) (object_of t v ∷ []) [] h)
 
 module _ (t room : ℕ) (v : List ℕ) (few : length v ≤ 255) (fits : 260 ≤ room) where
-  written : (size : ℕ) (out out' : List ℕ) → Ok size ≡ write_answer t v room → out' ≡ at_front (object_bytes t v) out → take size out' ≡ bytes_of (whole t v)
+  pub written : (size : ℕ) (out out' : List ℕ) → Ok size ≡ write_answer t v room → out' ≡ at_front (object_bytes t v) out
+      → (size ≡ length (bytes_of (whole t v))) × (take size out' ≡ bytes_of (whole t v)) × (size ≤ 260)
   written size out out' e a =
       let p = taken (is_tag t) (ltb 255 (length v)) (ltb room (length (object_bytes t v))) size (length (object_bytes t v)) e in
-      ap (take size) a ∙ take_at (object_bytes t v) (drop (length (object_bytes t v)) out) size (sym p.1) ∙ sym (whole_bytes t v p.0)
+      let w = whole_bytes t v p.0 in
+      let s = object_size t v in
+      (p.1 ∙ sym (ap length w), ap (take size) a ∙ take_at (object_bytes t v) (drop (length (object_bytes t v)) out) size (sym p.1) ∙ sym w, omega (arith, p.1, s.1))
 
-  unwritten : (k : WriteRefusal) → Err k ≡ write_answer t v room → bytes_of (whole t v) ≡ []
+  pub unwritten : (k : WriteRefusal) → Err k ≡ write_answer t v room → bytes_of (whole t v) ≡ []
   unwritten k e =
       let s = object_size t v in
       whole_none t v (refused (is_tag t) (ltb 255 (length v)) (ltb room (length (object_bytes t v))) k (length (object_bytes t v)) e (le-ltb 255 (length v) few) (le-ltb room (length (object_bytes t v)) (omega (arith, s.1))))
 
   pub put_bytes : (n : ℕ) (r : Result ℕ WriteRefusal) (out out' : List ℕ) → r ≡ write_answer t v room → out' ≡ write_after r t v out → n ≡ result_unwrap_or r 0 → take (n - 0) out' ≡ bytes_of (whole t v)
-  put_bytes n (Ok size) out out' e a is = let z : n - 0 ≡ size = omega arith in ap (λ k. take k out') z ∙ written size out out' e a
+  put_bytes n (Ok size) out out' e a is = let z : n - 0 ≡ size = omega arith in ap (λ k. take k out') z ∙ (written size out out' e a).1
   put_bytes n (Err k) out out' e a is = let z : n - 0 ≡ 0 = omega arith in ap (λ k. take k out') z ∙ sym (unwritten k e)
 
 -- bytes of one series after another

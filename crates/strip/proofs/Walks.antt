@@ -143,6 +143,7 @@ spot_at bs es t at n rest w g k same place size =
       place = here;
       here = ap (λ xs. lookup xs t) s ∙ (cut_out pre t v post (ap good (sym s) ∙ g)).here;
       text = text;
+      len = ap front_length (left ∙ ap (λ x. entry_bytes x v ++ written post) (sym same ∙ k.tag) ∙ sym k.text) ∙ k.len;
       long = long;
       room = omega arith;
       value = ap (take n) (sym (drop-drop 5 at bs) ∙ ap (drop 5) left) ∙ take_at v (written post) n long;
