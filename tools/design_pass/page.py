@@ -41,13 +41,13 @@ for x in g['changed']:
     lst.append(x)
 out.append('```text')
 for x in g['changed']:
-    e=x[0]; out.append(e if isinstance(e,str) else str(e)); out.append('    - '+str(x[1])); out.append('    + '+str(x[2]))
+    out.append('%s %s'%(x[0],x[1])); out.append('    - '+' '.join(x[2])); out.append('    + '+' '.join(x[3]))
 out.append('```\n')
 out.append('### Definitions\n')
 g=d['definitions']
 out.append('```text')
 for x in g['changed']:
-    e=x[0]; out.append(e if isinstance(e,str) else str(e)); out.append('    - '+(x[1] if isinstance(x[1],str) else ' '.join(x[1]))); out.append('    + '+(x[2] if isinstance(x[2],str) else ' '.join(x[2])))
+    out.append('%s %s'%(x[0],x[1])); out.append('    - '+' '.join(x[2])); out.append('    + '+' '.join(x[3]))
 out.append('```\n')
 out.append(open(here+'/gone.md').read().rstrip('\n'))
 out.append(subprocess.run(['python3',here+'/lemmas.py',was,now],capture_output=True,text=True).stdout.rstrip('\n'))
