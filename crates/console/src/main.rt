@@ -199,6 +199,7 @@ impl Console {
             let Some(text) = self.next_line()? else {
                 return Ok(None);
             };
+            // An `Option` inside a `Result` that allocates has no `?` of its own.
             let Some(line) = understood(heap, text.as_str())? else {
                 self.rt.println(not_understood_line(heap, self.count)?)?;
                 continue;

@@ -45,8 +45,8 @@ pub fn of_two(heap: Global, name: &str, word: &str) -> Result<Option<Line>, Allo
     }
 }
 
-// A line of three words. A word is read once those before it are understood, by `let .. else`: an `Option` inside a `Result`
-// that allocates has no `?` of its own.
+// A line of three words. Bytes are read only where the words before them are understood, by `let .. else`: an `Option` inside
+// a `Result` that allocates has no `?` of its own.
 pub fn of_three(
     heap: Global,
     name: &str,
@@ -149,7 +149,7 @@ fn shares_of(configuration: &str, terminal: &str, card: &str) -> Option<Shares>
     })
 }
 
-// A line of five words, each read once those before it are understood.
+// A line of five words. Bytes are read only where the words before them are understood.
 pub fn of_five(
     heap: Global,
     name: &str,

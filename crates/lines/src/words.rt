@@ -26,6 +26,7 @@ pub fn bytes_of(heap: Global, word: &str) -> Result<Option<Vec<u8>>, AllocError>
 pub fn tag_of(heap: Global, word: &str) -> Result<Option<Tag>, AllocError>
     ensures { IfOk result (λ o. option_map (λ (t : Tag). t.value) o ≡ tag_in (word_bytes word.now)) }
 {
+    // An `Option` inside a `Result` that allocates has no `?` of its own.
     let Some(bytes) = bytes_of(heap, word)? else {
         return Ok(None);
     };
