@@ -8,6 +8,7 @@ d=json.loads(subprocess.run(['python3','/opt/rattle/port/contracts.py',was,now,'
 head=open(here+'/head.md').read()
 out=[head.rstrip('\n'),'']
 def esc(s): return s.replace('|','\\|').replace('\n',' ')
+def text(x): return x if isinstance(x,str) else ' '.join(x)
 out.append('## What changed in promises, old and new\n')
 out.append('Made by comparing the text of the repository at the commit of the first line with the text now. Functions whose clauses and signatures are word for word the same are left out. What is told of private functions is in the second list.\n')
 def is_pub(entry,root):
@@ -41,13 +42,13 @@ for x in g['changed']:
     lst.append(x)
 out.append('```text')
 for x in g['changed']:
-    out.append('%s %s'%(x[0],x[1])); out.append('    - '+' '.join(x[2])); out.append('    + '+' '.join(x[3]))
+    out.append(' '.join(x[:-2])); out.append('    - '+text(x[-2])); out.append('    + '+text(x[-1]))
 out.append('```\n')
 out.append('### Definitions\n')
 g=d['definitions']
 out.append('```text')
 for x in g['changed']:
-    out.append('%s %s'%(x[0],x[1])); out.append('    - '+' '.join(x[2])); out.append('    + '+' '.join(x[3]))
+    out.append(' '.join(x[:-2])); out.append('    - '+text(x[-2])); out.append('    + '+text(x[-1]))
 out.append('```\n')
 out.append(open(here+'/gone.md').read().rstrip('\n'))
 out.append(subprocess.run(['python3',here+'/lemmas.py',was,now],capture_output=True,text=True).stdout.rstrip('\n'))
