@@ -109,7 +109,7 @@ fn without_digits(value: &[u8]) -> &[u8]
     &value[digits..]
 }
 
-// Whether the half-bytes are decimal digits and then only 'F'. Byte by byte: an iterator of half-bytes took many times as
+// Whether the half-bytes are decimal digits and then only 'F'. Byte by byte: an iterator of half-bytes took three times as
 // long.
 fn is_compressed(value: &[u8]) -> bool
     ensures { result ≡ digits_then_f (halves value.now) }

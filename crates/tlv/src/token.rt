@@ -60,7 +60,8 @@ fn skip_filler(text: &[u8]) -> &[u8]
     rest
 }
 
-// What stands next in a series that ends just before the place `end`, and the bytes after it.
+// What stands next in a series that ends just before the place `end`, and the bytes after it. Put into its callers' loops: with
+// the closures below, the compiler no longer does so by itself.
 #[inline(always)]
 pub fn next_token(text: &[u8], end: usize) -> Result<(Token<'_>, &[u8]), TextFault>
     ensures { next_told result ≡ next_at end text.now }
